@@ -7,3 +7,4 @@ pub mod OneList
 pub mod Operations
 pub mod Nearest
 pub mod Kinds
+pub mod Examples

@@ -1,4 +1,5 @@
 -- What can be made of maps (document 01, "What can be asked"): joins, sections and splits, cell by cell.
+--   boxCells               the cells between the low and the high ends
 --   Operation, holds       union, overlap, first without second, exclusive or, of two memberships
 --   operation              document 01's number of an operation: 1 to 4
 --   join                   the cells of which the operation holds
@@ -14,6 +15,13 @@ use lib.IntN.{ℤ}
 use lib.Dec.{eqb}
 use lib.Signed.{leZ, ltZ}
 use Rattle.meaning.specs.Numbers.{Axis, focus, first, second, Cell, Square, Pair, codeOn, across}
+
+-- from the low end to below the high end
+abbrev pub between : ℤ → ℤ → ℤ → Bool
+between low high z = leZ low z && ltZ z high
+
+abbrev pub boxCells : ℤ → ℤ → ℤ → ℤ → ℤ → ℤ → Cell → Bool
+boxCells a a′ b b′ d d′ c = between a a′ (c .focus) && (between b b′ (c .first) && between d d′ (c .second))
 
 pub data Operation : Type 0 where
   union overlap without exclusive : Operation

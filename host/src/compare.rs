@@ -1,0 +1,187 @@
+//! Comparing: a run of calls of one function, the slices that are lent to it, what is written of a difference, and
+//! the report over all functions.
+
+use crate::functions::{Function, FUNCTIONS};
+use crate::judge;
+use crate::rng::Rng;
+
+/// The calls of each function where no number is given.
+pub const CALLS: u64 = 100_000;
+/// From so many calls on, every number that a function can answer must have been met.
+const CALLS_TO_MEET_ALL: u64 = 20_000;
+/// The differences that are written out.
+const SHOWN: usize = 3;
+/// The numbers of a list or result that are written out.
+const SHOWN_NUMBERS: usize = 96;
+/// The seed of each function's maps.
+const SEED: u64 = 0x7261_7665_6C6D_6170;
+/// Numbers of an answer: 0 to 12.
+const NUMBERS: usize = 13;
+
+/// The calls of one function, and what came of them.
+pub struct Run {
+    /// What the inputs are made from.
+    pub rng: Rng,
+    goal: u64,
+    /// Calls made.
+    pub calls: u64,
+    /// Calls that differed.
+    pub wrong: u64,
+    /// The first differences, with their inputs.
+    pub shown: Vec<String>,
+    met: [u64; NUMBERS],
+}
+
+impl Run {
+    /// A run of so many calls with the inputs of this seed.
+    pub fn new(seed: u64, goal: u64) -> Run {
+        Run {
+            rng: Rng::new(seed),
+            goal,
+            calls: 0,
+            wrong: 0,
+            shown: Vec::new(),
+            met: [0; NUMBERS],
+        }
+    }
+
+    /// Are there calls left to be made?
+    pub fn goes_on(&self) -> bool {
+        self.calls < self.goal
+    }
+
+    /// Counts one call: the number that is due, whether all was as it should be, and how to tell it if not.
+    pub fn count(&mut self, number: u8, same: bool, tell: impl FnOnce() -> String) {
+        self.calls += 1;
+        self.met[usize::from(number)] += 1;
+        if !same {
+            self.wrong += 1;
+            if self.shown.len() < SHOWN {
+                self.shown.push(format!("call {}: {}", self.calls, tell()));
+            }
+        }
+    }
+
+    /// Which of these numbers were never due?
+    pub fn not_met(&self, numbers: &[u8]) -> Vec<u8> {
+        let never = |n: &&u8| self.met[usize::from(**n)] == 0;
+        numbers.iter().filter(never).copied().collect()
+    }
+
+    /// How often each number was due, for the report.
+    fn met_text(&self) -> String {
+        let met = self.met.iter().enumerate().filter(|(_, &calls)| calls > 0);
+        met.map(|(number, calls)| format!(" {number}:{calls}"))
+            .collect()
+    }
+}
+
+/// A result slice to be lent, in the midst of a buffer; all of it has other contents.
+#[derive(Clone, PartialEq)]
+pub struct Lent {
+    numbers: Vec<i16>,
+    length: usize,
+}
+
+impl Lent {
+    /// What stands before and behind the slice.
+    const BESIDE: usize = 4;
+
+    /// A slice of this length.
+    pub fn new(rng: &mut Rng, length: usize) -> Lent {
+        let all = length + 2 * Lent::BESIDE;
+        let mut numbers = Vec::with_capacity(all + 3);
+        while numbers.len() < all {
+            let bits = rng.bits();
+            numbers.extend([0, 16, 32, 48].map(|shift| (bits >> shift) as i16));
+        }
+        numbers.truncate(all);
+        Lent { numbers, length }
+    }
+
+    /// The slice.
+    pub fn slice(&mut self) -> &mut [i16] {
+        &mut self.numbers[Lent::BESIDE..][..self.length]
+    }
+
+    /// Where two buffers differ, with their first differing numbers, the place counted in the slice.
+    pub fn difference(&self, other: &Lent) -> String {
+        let pairs = self.numbers.iter().zip(&other.numbers);
+        match pairs.enumerate().find(|(_, (a, b))| a != b) {
+            None => "results are as they should be".to_string(),
+            Some((at, (due, given))) => format!(
+                "result[{}] (length {}) should be {due} and is {given}",
+                at as isize - Lent::BESIDE as isize,
+                self.length
+            ),
+        }
+    }
+}
+
+/// A list as text, cut where it is long.
+pub fn text(list: &[i16]) -> String {
+    let shown: Vec<String> = list
+        .iter()
+        .take(SHOWN_NUMBERS)
+        .map(i16::to_string)
+        .collect();
+    let more = match list.len() > SHOWN_NUMBERS {
+        true => ", ...",
+        false => "",
+    };
+    format!("{} numbers [{}{more}]", list.len(), shown.join(", "))
+}
+
+/// Two answers as text.
+pub fn answers(due: u64, given: u64) -> String {
+    format!(
+        "should be {due:#018x} (number {}) and is {given:#018x} (number {})",
+        judge::number(due),
+        judge::number(given)
+    )
+}
+
+/// Compares one function in so many calls; writes its line, and its first differences. The calls made, if all is
+/// as it should be.
+fn compare_one(function: &Function, calls: u64) -> Option<u64> {
+    let mut run = Run::new(SEED, calls);
+    let start = std::time::Instant::now();
+    (function.compare)(&mut run);
+    println!(
+        "{}: {} calls, {} different, {:.1} s, numbers due{}",
+        function.name,
+        run.calls,
+        run.wrong,
+        start.elapsed().as_secs_f64(),
+        run.met_text()
+    );
+    for shown in &run.shown {
+        println!("  {shown}");
+    }
+    let never = match calls >= CALLS_TO_MEET_ALL {
+        true => run.not_met(function.numbers),
+        false => Vec::new(),
+    };
+    if !never.is_empty() {
+        println!("  never due, so not compared: numbers {never:?}");
+    }
+    (run.wrong == 0 && never.is_empty()).then_some(run.calls)
+}
+
+/// Compares every function, or those that are named, and writes the last line. Is all as it should be?
+pub fn compare(calls: u64, names: &[String]) -> bool {
+    let chosen: Vec<&Function> = FUNCTIONS
+        .iter()
+        .filter(|f| names.is_empty() || names.iter().any(|n| f.name.ends_with(n.as_str())))
+        .collect();
+    let good: Vec<String> = chosen
+        .iter()
+        .filter_map(|f| Some(format!("{} {}", f.name, compare_one(f, calls)?)))
+        .collect();
+    let differ = chosen.len() - good.len();
+    match differ == 0 && !chosen.is_empty() {
+        true => println!("all as it should be; calls: {}", good.join(", ")),
+        false => println!("{differ} of {} functions differ", chosen.len()),
+    }
+    differ == 0 && !chosen.is_empty()
+}

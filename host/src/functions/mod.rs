@@ -1,0 +1,99 @@
+//! One module a function: the answer that document 01 asks for, the comparison with a library's answer, and what is
+//! timed. The list below names the functions that are compared with the library.
+
+use crate::bench::{Case, Table};
+use crate::compare::{answers, text, Run};
+use crate::judge::Known;
+use crate::lib_calls;
+use crate::make;
+
+pub mod cell;
+pub mod check;
+pub mod corner;
+pub mod join;
+pub mod make_box;
+pub mod nearest;
+pub mod nearest_distance;
+pub mod plane;
+pub mod section;
+pub mod split;
+
+/// The questions that are put to one list.
+const QUESTIONS: usize = 8;
+
+/// A function of the library.
+pub struct Function {
+    /// Its name in C.
+    pub name: &'static str,
+    /// The numbers that it can answer; a long run must meet them all.
+    pub numbers: &'static [u8],
+    /// Compares it with the judge.
+    pub compare: fn(&mut Run),
+    /// Times it beside the ordinary Rust version.
+    pub time: fn(&[Case], &mut Table),
+}
+
+/// A function by its C name and its module, which has the same name as the call.
+macro_rules! function {
+    ($name:literal, $module:ident) => {
+        Function {
+            name: $name,
+            numbers: $module::NUMBERS,
+            compare: |run| $module::compare(lib_calls::$module, run),
+            time: |cases, table| $module::time(lib_calls::$module, cases, table),
+        }
+    };
+}
+
+/// The functions that the library has. A function is added by its line.
+/// To come: section, split, join, nearest, nearest_distance.
+pub const FUNCTIONS: &[Function] = &[
+    function!("travelmap_check", check),
+    function!("travelmap_box", make_box),
+    function!("travelmap_cell", cell),
+    function!("travelmap_corner", corner),
+    function!("travelmap_plane", plane),
+];
+
+/// Compares a function of a list and three numbers; `number` reads the refusal in an answer.
+fn compare_asked(
+    call: impl Fn(&[i16], [i16; 3]) -> u64,
+    judge: impl Fn(&Known, [i16; 3]) -> u64,
+    number: impl Fn(u64) -> u8,
+    run: &mut Run,
+) {
+    while run.goes_on() {
+        let known = Known::new(make::mostly_valid(&mut run.rng));
+        for _ in 0..QUESTIONS {
+            let asked = make::asked(&mut run.rng, &known.vertices);
+            let due = judge(&known, asked);
+            let given = call(&known.list, asked);
+            let same = given == due && known.untouched();
+            run.count(number(due), same, || {
+                format!(
+                    "{} for {asked:?} of {}",
+                    answers(due, given),
+                    text(&known.list)
+                )
+            });
+        }
+    }
+}
+
+/// Times a function of a list and three numbers.
+fn time_asked(
+    name: &str,
+    ours: impl Fn(&[i16], [i16; 3]) -> u64,
+    plain: impl Fn(&[i16], [i16; 3]) -> u64,
+    cases: &[Case],
+    table: &mut Table,
+) {
+    for case in cases {
+        table.row(
+            name,
+            case,
+            |turn| ours(&case.list, case.asked(turn)),
+            |turn| plain(&case.list, case.asked(turn)),
+        );
+    }
+}

@@ -1,0 +1,136 @@
+//! The functions of the static library as C declares them, and a safe call of each. A slice is a pointer and a
+//! length. A call that functions/mod.rs does not name is not linked, so that the library may lack it.
+
+#[link(name = "travelmap", kind = "static")]
+extern "C" {
+    fn travelmap_check(list: *const i16, len: usize) -> u64;
+    fn travelmap_box(
+        focus_low: i16,
+        focus_high: i16,
+        first_low: i16,
+        first_high: i16,
+        second_low: i16,
+        second_high: i16,
+        result: *mut i16,
+        result_len: usize,
+    ) -> u64;
+    fn travelmap_cell(list: *const i16, len: usize, focus: i16, first: i16, second: i16) -> u64;
+    fn travelmap_corner(list: *const i16, len: usize, focus: i16, first: i16, second: i16) -> u64;
+    fn travelmap_plane(list: *const i16, len: usize, focus: i16) -> u64;
+    fn travelmap_section(
+        list: *const i16,
+        len: usize,
+        axis: u32,
+        code: i16,
+        result: *mut i16,
+        result_len: usize,
+    ) -> u64;
+    fn travelmap_split(
+        list: *const i16,
+        len: usize,
+        axis: u32,
+        at: i16,
+        low: *mut i16,
+        low_len: usize,
+        high: *mut i16,
+        high_len: usize,
+    ) -> u64;
+    fn travelmap_join(
+        operation: u32,
+        one: *const i16,
+        one_len: usize,
+        other: *const i16,
+        other_len: usize,
+        result: *mut i16,
+        result_len: usize,
+    ) -> u64;
+    fn travelmap_nearest(list: *const i16, len: usize, focus: i16, first: i16, second: i16) -> u64;
+    fn travelmap_nearest_distance(
+        list: *const i16,
+        len: usize,
+        focus: i16,
+        first: i16,
+        second: i16,
+    ) -> u64;
+}
+
+/// Checks a list.
+pub fn check(list: &[i16]) -> u64 {
+    unsafe { travelmap_check(list.as_ptr(), list.len()) }
+}
+
+/// Makes the map of a box from its low and high end on each axis.
+pub fn make_box(ends: [[i16; 2]; 3], result: &mut [i16]) -> u64 {
+    let [[a, b], [c, d], [e, f]] = ends;
+    unsafe { travelmap_box(a, b, c, d, e, f, result.as_mut_ptr(), result.len()) }
+}
+
+/// Is the cell permitted?
+pub fn cell(list: &[i16], asked: [i16; 3]) -> u64 {
+    unsafe { travelmap_cell(list.as_ptr(), list.len(), asked[0], asked[1], asked[2]) }
+}
+
+/// The corner report.
+pub fn corner(list: &[i16], asked: [i16; 3]) -> u64 {
+    unsafe { travelmap_corner(list.as_ptr(), list.len(), asked[0], asked[1], asked[2]) }
+}
+
+/// The part of the list at a focus number.
+pub fn plane(list: &[i16], focus: i16) -> u64 {
+    unsafe { travelmap_plane(list.as_ptr(), list.len(), focus) }
+}
+
+/// The section at a code of an axis.
+#[allow(dead_code)]
+pub fn section(list: &[i16], axis: u32, code: i16, result: &mut [i16]) -> u64 {
+    let (start, len) = (result.as_mut_ptr(), result.len());
+    unsafe { travelmap_section(list.as_ptr(), list.len(), axis, code, start, len) }
+}
+
+/// The two halves at a corner number of an axis.
+#[allow(dead_code)]
+pub fn split(list: &[i16], axis: u32, at: i16, low: &mut [i16], high: &mut [i16]) -> u64 {
+    let (low, low_len) = (low.as_mut_ptr(), low.len());
+    let (high, high_len) = (high.as_mut_ptr(), high.len());
+    unsafe {
+        travelmap_split(
+            list.as_ptr(),
+            list.len(),
+            axis,
+            at,
+            low,
+            low_len,
+            high,
+            high_len,
+        )
+    }
+}
+
+/// Joins two maps.
+#[allow(dead_code)]
+pub fn join(operation: u32, one: &[i16], other: &[i16], result: &mut [i16]) -> u64 {
+    let (a, a_len, b, b_len) = (one.as_ptr(), one.len(), other.as_ptr(), other.len());
+    unsafe {
+        travelmap_join(
+            operation,
+            a,
+            a_len,
+            b,
+            b_len,
+            result.as_mut_ptr(),
+            result.len(),
+        )
+    }
+}
+
+/// The nearest permitted cell to a wish.
+#[allow(dead_code)]
+pub fn nearest(list: &[i16], wish: [i16; 3]) -> u64 {
+    unsafe { travelmap_nearest(list.as_ptr(), list.len(), wish[0], wish[1], wish[2]) }
+}
+
+/// The distance from a wish to the nearest permitted cell.
+#[allow(dead_code)]
+pub fn nearest_distance(list: &[i16], wish: [i16; 3]) -> u64 {
+    unsafe { travelmap_nearest_distance(list.as_ptr(), list.len(), wish[0], wish[1], wish[2]) }
+}

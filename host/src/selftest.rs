@@ -1,0 +1,133 @@
+//! The self-test: the judge against the worked examples and the definitions, right libraries that must pass, and
+//! wrong ones that the comparison must report.
+
+mod examples;
+mod judges;
+mod liars;
+
+use crate::bench::{all_cases, Table};
+use crate::compare::{Lent, Run};
+use crate::functions::*;
+use crate::judge::Known;
+use crate::{plain, rng::Rng};
+use std::time::Duration;
+
+/// Calls of a wrong library; it must be reported within them.
+const CALLS: u64 = 6_000;
+/// Calls of a right library.
+const HONEST_CALLS: u64 = 20_000;
+/// The seeds of wrong and right libraries.
+const SEED: u64 = 0x6C69_6172;
+const HONEST_SEED: u64 = 0x7472_7565;
+
+/// What was tested, and what failed.
+pub struct Test {
+    tested: usize,
+    failed: usize,
+}
+
+impl Test {
+    /// Tests that something holds.
+    pub fn holds(&mut self, name: &str, holds: bool) {
+        self.tested += 1;
+        if !holds {
+            self.failed += 1;
+            println!("failed: {name}");
+        }
+    }
+
+    /// Tests that the comparison reports a wrong library, with its inputs.
+    pub fn reports(&mut self, name: &str, compare: impl FnOnce(&mut Run)) {
+        let mut run = Run::new(SEED, CALLS);
+        compare(&mut run);
+        let shown = run.shown.first().is_some_and(|text| text.contains("for "));
+        self.holds(&format!("not reported: {name}"), run.wrong > 0 && shown);
+    }
+
+    /// Tests that the comparison reports nothing of a right library, and meets every number it can answer.
+    fn passes(&mut self, name: &str, numbers: &[u8], compare: impl FnOnce(&mut Run)) {
+        let mut run = Run::new(HONEST_SEED, HONEST_CALLS);
+        compare(&mut run);
+        run.shown.iter().for_each(|text| println!("  {text}"));
+        let all_met = run.not_met(numbers).is_empty();
+        self.holds(
+            &format!("reported, or not tried: {name}"),
+            run.wrong == 0 && run.calls >= HONEST_CALLS && all_met,
+        );
+    }
+}
+
+/// The judge itself and the ordinary Rust versions pass.
+fn honest(test: &mut Test) {
+    let known = |list: &[i16]| Known::new(list.to_vec());
+    test.passes("judge, cell", cell::NUMBERS, |run| {
+        cell::compare(|list, asked| cell::judge(&known(list), asked), run)
+    });
+    test.passes("check", check::NUMBERS, |run| {
+        check::compare(plain::check, run)
+    });
+    test.passes("box", make_box::NUMBERS, |run| {
+        make_box::compare(plain::make_box, run)
+    });
+    test.passes("cell", cell::NUMBERS, |run| cell::compare(plain::cell, run));
+    test.passes("corner", corner::NUMBERS, |run| {
+        corner::compare(plain::corner, run)
+    });
+    test.passes("plane", plane::NUMBERS, |run| {
+        plane::compare(plain::plane, run)
+    });
+    test.passes("section", section::NUMBERS, |run| {
+        section::compare(plain::section, run)
+    });
+    test.passes("split", split::NUMBERS, |run| {
+        split::compare(plain::split, run)
+    });
+    test.passes("join", join::NUMBERS, |run| join::compare(plain::join, run));
+    test.passes("nearest", nearest::NUMBERS, |run| {
+        nearest::compare(plain::nearest, run)
+    });
+    test.passes("distance", nearest_distance::NUMBERS, |run| {
+        nearest_distance::compare(plain::nearest_distance, run)
+    });
+}
+
+/// The table of times has a line for each map, and reports a library whose answers differ.
+fn times(test: &mut Test) {
+    let [_, cases] = all_cases();
+    let mut table = Table::new(Duration::from_nanos(1));
+    check::time(plain::check, &cases, &mut table);
+    make_box::time(plain::make_box, &cases, &mut table);
+    cell::time(plain::cell, &cases, &mut table);
+    corner::time(plain::corner, &cases, &mut table);
+    plane::time(plain::plane, &cases, &mut table);
+    section::time(plain::section, &cases, &mut table);
+    split::time(plain::split, &cases, &mut table);
+    join::time(plain::join, &cases, &mut table);
+    nearest::time(plain::nearest, &cases, &mut table);
+    nearest_distance::time(plain::nearest_distance, &cases, &mut table);
+    let lines = 14 * cases.len() + 2;
+    test.holds("a line for each map", table.lines.len() == lines);
+    test.holds("answers that are timed", table.wrong.is_empty());
+    check::time(|_| 0, &cases, &mut table);
+    test.holds("wrong answers that are timed", !table.wrong.is_empty());
+}
+
+/// Runs all tests and writes what failed. Did all hold?
+pub fn selftest() -> bool {
+    let mut test = Test {
+        tested: 0,
+        failed: 0,
+    };
+    examples::examples(&mut test);
+    judges::judges(&mut test);
+    honest(&mut test);
+    liars::liars(&mut test);
+    times(&mut test);
+    println!("{} tests, {} failed", test.tested, test.failed);
+    test.failed == 0
+}
+
+/// A slice to be lent, with the seed's contents.
+fn lent(length: usize) -> Lent {
+    Lent::new(&mut Rng::new(SEED), length)
+}
