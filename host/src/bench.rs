@@ -232,6 +232,9 @@ pub fn bench() -> bool {
     println!("| function | map | vertices | ours, ns | Rust, ns | ratio |");
     println!("|---|---|---:|---:|---:|---:|");
     table.lines.iter().for_each(|line| println!("{line}"));
+    if crate::lib_calls::EMULATED {
+        println!("\nThe library ran under an emulator and behind a pipe: its times say nothing.");
+    }
     for wrong in &table.wrong {
         eprintln!("answers differ: {wrong}");
     }

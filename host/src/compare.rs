@@ -4,6 +4,7 @@
 use crate::functions::{Function, FUNCTIONS};
 use crate::judge;
 use crate::rng::Rng;
+use std::time::Instant;
 
 /// The calls of each function where no number is given.
 pub const CALLS: u64 = 100_000;
@@ -11,10 +12,8 @@ pub const CALLS: u64 = 100_000;
 const CALLS_TO_MEET_ALL: u64 = 20_000;
 /// The differences that are written out.
 const SHOWN: usize = 3;
-/// The numbers of a list or result that are written out.
-const SHOWN_NUMBERS: usize = 96;
 /// The seed of each function's maps.
-const SEED: u64 = 0x7261_7665_6C6D_6170;
+pub const SEED: u64 = 0x7261_7665_6C6D_6170;
 /// Numbers of an answer: 0 to 12.
 const NUMBERS: usize = 13;
 
@@ -30,6 +29,7 @@ pub struct Run {
     /// The first differences, with their inputs.
     pub shown: Vec<String>,
     met: [u64; NUMBERS],
+    start: Instant,
 }
 
 impl Run {
@@ -42,6 +42,7 @@ impl Run {
             wrong: 0,
             shown: Vec::new(),
             met: [0; NUMBERS],
+            start: Instant::now(),
         }
     }
 
@@ -68,11 +69,29 @@ impl Run {
         numbers.iter().filter(never).copied().collect()
     }
 
-    /// How often each number was due, for the report.
-    fn met_text(&self) -> String {
+    /// Writes the run's line, with how often each number was due, and its first differences. Is all as it should be?
+    pub fn report(&self, name: &str, numbers: &[u8]) -> bool {
         let met = self.met.iter().enumerate().filter(|(_, &calls)| calls > 0);
-        met.map(|(number, calls)| format!(" {number}:{calls}"))
-            .collect()
+        let met: String = met
+            .map(|(number, calls)| format!(" {number}:{calls}"))
+            .collect();
+        println!(
+            "{name}: {} calls, {} different, {:.1} s, numbers due{met}",
+            self.calls,
+            self.wrong,
+            self.start.elapsed().as_secs_f64()
+        );
+        for shown in &self.shown {
+            println!("  {shown}");
+        }
+        let never = match self.calls >= CALLS_TO_MEET_ALL {
+            true => self.not_met(numbers),
+            false => Vec::new(),
+        };
+        if !never.is_empty() {
+            println!("  never due, so not compared: numbers {never:?}");
+        }
+        self.wrong == 0 && self.calls > 0 && never.is_empty()
     }
 }
 
@@ -118,20 +137,6 @@ impl Lent {
     }
 }
 
-/// A list as text, cut where it is long.
-pub fn text(list: &[i16]) -> String {
-    let shown: Vec<String> = list
-        .iter()
-        .take(SHOWN_NUMBERS)
-        .map(i16::to_string)
-        .collect();
-    let more = match list.len() > SHOWN_NUMBERS {
-        true => ", ...",
-        false => "",
-    };
-    format!("{} numbers [{}{more}]", list.len(), shown.join(", "))
-}
-
 /// Two answers as text.
 pub fn answers(due: u64, given: u64) -> String {
     format!(
@@ -141,31 +146,12 @@ pub fn answers(due: u64, given: u64) -> String {
     )
 }
 
-/// Compares one function in so many calls; writes its line, and its first differences. The calls made, if all is
-/// as it should be.
+/// Compares one function in so many calls, and reports. The calls made, if all is as it should be.
 fn compare_one(function: &Function, calls: u64) -> Option<u64> {
     let mut run = Run::new(SEED, calls);
-    let start = std::time::Instant::now();
     (function.compare)(&mut run);
-    println!(
-        "{}: {} calls, {} different, {:.1} s, numbers due{}",
-        function.name,
-        run.calls,
-        run.wrong,
-        start.elapsed().as_secs_f64(),
-        run.met_text()
-    );
-    for shown in &run.shown {
-        println!("  {shown}");
-    }
-    let never = match calls >= CALLS_TO_MEET_ALL {
-        true => run.not_met(function.numbers),
-        false => Vec::new(),
-    };
-    if !never.is_empty() {
-        println!("  never due, so not compared: numbers {never:?}");
-    }
-    (run.wrong == 0 && never.is_empty()).then_some(run.calls)
+    run.report(function.name, function.numbers)
+        .then_some(run.calls)
 }
 
 /// Compares every function, or those that are named, and writes the last line. Is all as it should be?

@@ -15,6 +15,9 @@ pub const NO_ROOM: u8 = 6;
 pub const EMPTY: u8 = 7;
 pub const BAD_OPERATION: u8 = 8;
 pub const BAD_NUMBER: u8 = 9;
+pub const ILL_FORMED: u8 = 10;
+pub const WRONG_SUM: u8 = 11;
+pub const TOO_LONG: u8 = 12;
 
 /// An answer: its number, the operand, the place and the counts.
 #[derive(Clone, Copy, Debug, Default, PartialEq, Eq)]
@@ -58,7 +61,7 @@ pub fn check(list: &[i16], operand: u8) -> Answer {
         place: place as u16,
         ..Answer::default()
     };
-    if list.len() % AXES != 0 {
+    if !list.len().is_multiple_of(AXES) {
         return at(NOT_THREES, 0);
     }
     let vertices = corners(list);
@@ -141,6 +144,15 @@ impl Known {
     /// Does the list that was lent still hold what it held?
     pub fn untouched(&self) -> bool {
         self.list == self.kept
+    }
+
+    /// The list as text.
+    pub fn text(&self) -> String {
+        let written = match self.untouched() {
+            true => "",
+            false => " (which was written to)",
+        };
+        format!("the list {:?}{written}", self.kept)
     }
 
     /// Is the list valid?

@@ -1,11 +1,14 @@
-//! Judges the travel map library. Commands: compare (with a plain grid), selftest (of the judge), bench (times).
+//! Judges the travel map library. Commands: compare (with a plain grid), program (the same of the compiled program),
+//! selftest (of the judge), bench (times).
 
 mod bench;
 mod compare;
+mod damage;
 mod functions;
 mod judge;
 mod lib_calls;
 mod make;
+mod make_text;
 mod map;
 mod plain;
 mod rng;
@@ -14,6 +17,7 @@ mod selftest;
 use std::process::ExitCode;
 
 const USAGE: &str = "host compare [CALLS [NAME...]]   compares every function (or those named) with a plain grid, CALLS times each
+host program CALLS WORD...       compares a compiled program, run as these words for each of CALLS inputs
 host selftest                    checks that the comparison reports wrong answers, and no right ones
 host bench                       times every function beside ordinary Rust, as a Markdown table";
 
@@ -23,6 +27,9 @@ fn main() -> ExitCode {
     let calls = words.get(1).map_or(Ok(compare::CALLS), |word| word.parse());
     let good = match (words.first().map(String::as_str), calls) {
         (Some("compare"), Ok(calls)) => compare::compare(calls, words.get(2..).unwrap_or(&[])),
+        (Some("program"), Ok(calls)) => {
+            functions::program::compare_command(calls, words.get(2..).unwrap_or(&[]))
+        }
         (Some("selftest"), _) => selftest::selftest(),
         (Some("bench"), _) => bench::bench(),
         _ => {

@@ -1,19 +1,17 @@
-//! Generated inputs: valid maps of many shapes, damaged lists for every refusal, pairs of maps to join, numbers to
-//! ask, and lengths of result slices.
+//! Generated inputs: valid maps of many shapes, pairs of maps to join, numbers to ask, and lengths of result slices.
 
-use crate::map::{
-    corners, list, Corner, Grid, Paint, AXES, HIGHEST, HIGHEST_CODE, LOWEST, MOST_VERTICES,
-};
+use crate::damage;
+use crate::map::{list, Corner, Grid, Paint, AXES, HIGHEST, HIGHEST_CODE, LOWEST, MOST_VERTICES};
 use crate::rng::Rng;
 
-/// Numbers that are not corner numbers, or only just.
-const ODD_NUMBERS: [i32; 8] = [513, -513, 32767, -32768, 1000, -600, 512, -512];
 /// Numbers that are asked beside those near the map.
 const ASKED_NUMBERS: [i32; 14] = [
     -32768, -32767, 32767, 32766, -513, -512, -511, 510, 511, 512, 513, 0, -1, 1,
 ];
+/// Steps from a number of the map to one that is asked.
+const NEAR: [i16; 8] = [0, 0, 0, 0, 0, -1, 1, -2];
 /// One map in so many is long: up to the most vertices.
-const LONG_ONE_IN: usize = 60;
+const LONG_ONE_IN: usize = 40;
 /// One long map in so many has nested shells as deep as they go, whose grid is the largest.
 const DEEP_ONE_IN: usize = 30;
 /// The most shells or slabs of a map: each has eight vertices.
@@ -117,8 +115,8 @@ fn touching(rng: &mut Rng, grid: &mut Grid) {
     });
 }
 
-/// A lump with exactly so many vertices (an even number that is not 2, 4 or 6): cells of a cube are flipped until
-/// the number of corners with an odd number of cells is met.
+/// A lump with exactly so many vertices (an even number that is not 2, 4 or 6): cells of a cube are flipped, where
+/// that gives no more corners with an odd number of cells than asked, until their number is met.
 pub fn lump_of(rng: &mut Rng, vertices: usize) -> Vec<Corner> {
     let mut size = 2;
     while (size + 1usize).pow(3) * 9 < vertices * 20 {
@@ -130,12 +128,15 @@ pub fn lump_of(rng: &mut Rng, vertices: usize) -> Vec<Corner> {
     let mut count = 0;
     while count != vertices {
         let [i, j, k] = [0; AXES].map(|_| rng.below(size));
-        grid.paint([i + 1, j + 1, k + 1], [i + 2, j + 2, k + 2], Paint::Flip);
-        for corner in 0..8 {
+        let round: [usize; 8] = std::array::from_fn(|corner| {
             let [a, b, c] = [i + (corner >> 2), j + (corner >> 1 & 1), k + (corner & 1)];
-            let at = (a * side + b) * side + c;
-            odd[at] = !odd[at];
-            count = if odd[at] { count + 1 } else { count - 1 };
+            (a * side + b) * side + c
+        });
+        let fewer = round.iter().filter(|&&at| odd[at]).count();
+        if count + 8 - 2 * fewer <= vertices {
+            count = count + 8 - 2 * fewer;
+            round.iter().for_each(|&at| odd[at] = !odd[at]);
+            grid.paint([i + 1, j + 1, k + 1], [i + 2, j + 2, k + 2], Paint::Flip);
         }
     }
     grid.list()
@@ -164,7 +165,7 @@ fn short_map(rng: &mut Rng) -> Vec<Corner> {
         }
         10..=11 => touching(rng, &mut grid),
         _ => {
-            let percent = rng.pick(&[10, 30, 50, 70, 90]);
+            let percent = rng.pick(&[10, 30, 50, 50, 50, 70, 90]);
             lump(rng, &mut grid, percent);
         }
     }
@@ -218,7 +219,7 @@ pub fn map(rng: &mut Rng) -> Vec<Corner> {
     }
 }
 
-/// The lists of two valid maps to join: equal, stacked, crossed, in the same window, or apart.
+/// The lists of two valid maps to join: equal, stacked, crossed, apart, or in the same window.
 pub fn pair(rng: &mut Rng) -> [Vec<i16>; 2] {
     match rng.below(16) {
         0 => {
@@ -226,23 +227,29 @@ pub fn pair(rng: &mut Rng) -> [Vec<i16>; 2] {
             [one.clone(), one]
         }
         1..=2 => stacked(rng),
-        3 if rng.once_in(10) => crossed(rng),
+        3 if rng.once_in(3) => crossed(rng),
         3..=4 => [list(&map(rng)), list(&map(rng))],
-        _ => {
-            let most = if rng.once_in(LONG_ONE_IN) { 9 } else { 5 };
-            let size = sizes(rng, most);
-            let frame = size.map(|s| cuts(rng, s));
-            let percent = rng.pick(&[10, 50, 90]);
-            [0; 2].map(|_| {
-                let mut grid = Grid::empty(frame.clone());
-                match rng.below(2) {
-                    0 => boxes(rng, &mut grid, size, 3),
-                    _ => lump(rng, &mut grid, percent),
-                }
-                list(&grid.list())
-            })
-        }
+        _ => same_window(rng),
     }
+}
+
+/// Two maps of one window; where they are long, often with different cuts, so that the result may be too long.
+fn same_window(rng: &mut Rng) -> [Vec<i16>; 2] {
+    let long = rng.once_in(LONG_ONE_IN);
+    let size = if long { [8; AXES] } else { sizes(rng, 5) };
+    let mut frame = size.map(|s| cuts(rng, s));
+    let percent = rng.pick(&[10, 50, 90]);
+    [0; 2].map(|_| {
+        let mut grid = Grid::empty(frame.clone());
+        match rng.below(2) {
+            0 => boxes(rng, &mut grid, size, 3),
+            _ => lump(rng, &mut grid, percent),
+        }
+        if long && rng.once_in(2) {
+            frame = size.map(|s| cuts(rng, s));
+        }
+        list(&grid.list())
+    })
 }
 
 /// Two boxes with a common face on any axis: the first ends where the second begins.
@@ -262,195 +269,47 @@ fn stacked(rng: &mut Rng) -> [Vec<i16>; 2] {
 
 /// Slabs on one axis and slabs crosswise; their overlap has eight vertices for each pair of slabs.
 fn crossed(rng: &mut Rng) -> [Vec<i16>; 2] {
-    let count = 1 + rng.below(13);
+    let count = rng.pick(&[1, 2, 3, 5, 8, 11, 12, 13]);
     let frame = [2 * count - 1, 2 * count - 1, 1].map(|s| cuts(rng, s));
     [0, 1].map(|axis| list(&slabs(frame.clone(), axis).list()))
 }
 
-/// A list to be checked: valid, damaged once or several times, or made up of numbers at random.
-pub fn any_list(rng: &mut Rng) -> Vec<i16> {
-    match rng.below(20) {
-        0 => random_list(rng),
-        1..=9 => {
-            let mut damaged = list(&map(rng));
-            for _ in 0..1 + rng.below(3) {
-                damage(rng, &mut damaged);
-            }
-            damaged
-        }
-        _ => list(&map(rng)),
-    }
-}
-
-/// A valid list, or now and then a damaged one.
-pub fn mostly_valid(rng: &mut Rng) -> Vec<i16> {
-    match rng.once_in(5) {
-        true => any_list(rng),
-        false => list(&map(rng)),
-    }
-}
-
-/// A list, one time in ten damaged.
-pub fn maybe_damaged(rng: &mut Rng, mut list: Vec<i16>) -> Vec<i16> {
-    if rng.once_in(10) {
-        damage(rng, &mut list);
-    }
-    list
-}
-
-/// Numbers of a small window at random, rising or not.
-fn random_list(rng: &mut Rng) -> Vec<i16> {
-    let width = rng.between(1, 4);
-    let count = rng.below(24);
-    let mut vertices: Vec<Corner> = (0..count)
-        .map(|_| Corner([0; AXES].map(|_| rng.between(-width, width))))
-        .collect();
-    if rng.below(4) > 0 {
-        vertices.sort_unstable();
-        vertices.dedup();
-    }
-    list(&vertices)
-}
-
-/// Does one damage to the list.
-fn damage(rng: &mut Rng, list: &mut Vec<i16>) {
-    match rng.below(16) {
-        0 => cut_or_add_numbers(rng, list),
-        1 => too_long(rng, list),
-        2..=4 => change_number(rng, list),
-        5..=7 => disturb_order(rng, list),
-        8 => remove_vertex(rng, list),
-        9 => step_number(rng, list),
-        _ => flip_vertices(rng, list),
-    }
-}
-
-/// One or two numbers too many, or too few.
-fn cut_or_add_numbers(rng: &mut Rng, list: &mut Vec<i16>) {
-    let by = 1 + rng.below(2);
+/// A list of any kind, a chequered board, or a lump round whose corners every set of eight cells is as likely.
+pub fn many_corners(rng: &mut Rng) -> Vec<i16> {
     if rng.once_in(2) {
-        list.truncate(list.len().saturating_sub(by));
-    } else {
-        let first = rng.between(-600, 600) as i16;
-        list.extend((0..by as i16).map(|n| first + n));
+        return damage::mostly_valid(rng);
     }
-}
-
-/// More than the most vertices: by one or by many, with the list's own contents repeated or a large lump.
-fn too_long(rng: &mut Rng, list: &mut Vec<i16>) {
-    let vertices = match rng.below(3) {
-        0 => MOST_VERTICES + 1,
-        1 => MOST_VERTICES + 2,
-        _ => MOST_VERTICES + 1 + rng.below(2000),
-    };
-    if rng.once_in(3) {
-        *list = crate::map::list(&lump_of(rng, MOST_VERTICES + 2));
-    } else {
-        let numbers = vertices * AXES + list.len() % AXES;
-        let mut next = 0;
-        while list.len() < numbers {
-            let again = list.get(next).copied().unwrap_or(7);
-            list.push(again);
-            next += 1;
-        }
+    let mut grid = window(rng, [4; AXES]);
+    match rng.once_in(8) {
+        true => touching(rng, &mut grid),
+        false => lump(rng, &mut grid, 50),
     }
-}
-
-/// A vertex of the list, by its place.
-fn place(rng: &mut Rng, list: &[i16]) -> Option<usize> {
-    let count = list.len() / AXES;
-    (count > 0).then(|| match rng.below(6) {
-        0 => 0,
-        1 => count - 1,
-        _ => rng.below(count),
-    })
-}
-
-/// Some number becomes one that is out of range, or only just in it.
-fn change_number(rng: &mut Rng, list: &mut [i16]) {
-    if let Some(place) = place(rng, list) {
-        list[place * AXES + rng.below(AXES)] = rng.pick(&ODD_NUMBERS) as i16;
-    }
-}
-
-/// Vertices are swapped, or one is doubled in place of its neighbour or beside it.
-fn disturb_order(rng: &mut Rng, list: &mut Vec<i16>) {
-    let (Some(one), Some(other)) = (place(rng, list), place(rng, list)) else {
-        return;
-    };
-    let at = one * AXES;
-    let vertex = [list[at], list[at + 1], list[at + 2]];
-    match rng.below(3) {
-        0 => (0..AXES).for_each(|n| list.swap(at + n, other * AXES + n)),
-        1 => list[other * AXES..][..AXES].copy_from_slice(&vertex),
-        _ => drop(list.splice(at..at, vertex)),
-    }
-}
-
-/// A vertex is left out.
-fn remove_vertex(rng: &mut Rng, list: &mut Vec<i16>) {
-    if let Some(place) = place(rng, list) {
-        list.drain(place * AXES..(place + 1) * AXES);
-    }
-}
-
-/// A vertex moves by one on one axis.
-fn step_number(rng: &mut Rng, list: &mut [i16]) {
-    if let Some(place) = place(rng, list) {
-        let at = place * AXES + rng.below(AXES);
-        list[at] = list[at].wrapping_add(rng.pick(&[-1, 1]));
-    }
-}
-
-/// Puts in, or takes out, one vertex, the two ends of a line or the four of a rectangle, and keeps the order: then
-/// lines are odd on three axes, on two or on one.
-fn flip_vertices(rng: &mut Rng, list: &mut Vec<i16>) {
-    let mut vertices = corners(list);
-    let from = match rng.below(4) {
-        0 => Corner([0; AXES].map(|_| rng.between(LOWEST, HIGHEST))),
-        _ => some_vertex(rng, &vertices),
-    };
-    let to = some_vertex(rng, &vertices);
-    let wide = rng.pick(&[
-        [0, 0, 0],
-        [1, 0, 0],
-        [0, 1, 0],
-        [0, 0, 1],
-        [0, 1, 1],
-        [1, 0, 1],
-        [1, 1, 0],
-    ]);
-    for mask in 0..8 {
-        let bits = [mask >> 2, mask >> 1 & 1, mask & 1];
-        if (0..AXES).all(|axis| bits[axis] <= wide[axis]) {
-            let corner = [0, 1, 2].map(|a| if bits[a] == 1 { to.0[a] } else { from.0[a] });
-            match vertices.binary_search(&Corner(corner)) {
-                Ok(at) => drop(vertices.remove(at)),
-                Err(at) => vertices.insert(at, Corner(corner)),
-            }
-        }
-    }
-    *list = crate::map::list(&vertices);
+    list(&grid.list())
 }
 
 /// A vertex of the map, or one near the middle where there is none.
-fn some_vertex(rng: &mut Rng, vertices: &[Corner]) -> Corner {
+pub fn some_vertex(rng: &mut Rng, vertices: &[Corner]) -> Corner {
     match vertices.is_empty() {
         true => Corner([0; AXES].map(|_| rng.between(-2, 2))),
         false => vertices[rng.below(vertices.len())],
     }
 }
 
-/// Three numbers to ask of a map: near a vertex of it, at the ends of the ranges, or anywhere.
+/// Three numbers to ask of a map: those of a vertex or near it, on each axis those of some vertex or near it, at the
+/// ends of the ranges, or anywhere.
 pub fn asked(rng: &mut Rng, vertices: &[Corner]) -> [i16; AXES] {
-    let near = some_vertex(rng, vertices);
-    let mixed = rng.once_in(3);
-    [0, 1, 2].map(|axis| match (mixed, rng.below(8)) {
-        (true, 0..=1) => rng.pick(&ASKED_NUMBERS) as i16,
-        (true, 2) => rng.bits() as i16,
-        (true, 3) => rng.between(LOWEST, HIGHEST_CODE) as i16,
-        (true, 4) => some_vertex(rng, vertices).0[axis] as i16,
-        _ => (near.0[axis] + rng.between(-2, 1)) as i16,
+    let one = some_vertex(rng, vertices);
+    let way = rng.below(5);
+    [0, 1, 2].map(|axis| {
+        let any = some_vertex(rng, vertices).0[axis] as i16;
+        match (way, rng.below(6)) {
+            (0, _) => any,
+            (1, _) => any + rng.pick(&NEAR),
+            (4, 0..=1) => rng.pick(&ASKED_NUMBERS) as i16,
+            (4, 2) => rng.bits() as i16,
+            (4, 3) => rng.between(LOWEST, HIGHEST_CODE) as i16,
+            _ => one.0[axis] as i16 + rng.pick(&NEAR),
+        }
     })
 }
 

@@ -6,10 +6,11 @@ mod judges;
 mod liars;
 
 use crate::bench::{all_cases, Table};
-use crate::compare::{Lent, Run};
+use crate::compare::{self, Lent, Run};
 use crate::functions::*;
 use crate::judge::Known;
 use crate::{plain, rng::Rng};
+use std::cell::RefCell;
 use std::time::Duration;
 
 /// Calls of a wrong library; it must be reported within them.
@@ -63,6 +64,9 @@ fn honest(test: &mut Test) {
     test.passes("judge, cell", cell::NUMBERS, |run| {
         cell::compare(|list, asked| cell::judge(&known(list), asked), run)
     });
+    test.passes("judge, program", program::NUMBERS, |run| {
+        program::compare(|input| program::judge(input).1.into_bytes(), run)
+    });
     test.passes("check", check::NUMBERS, |run| {
         check::compare(plain::check, run)
     });
@@ -89,6 +93,20 @@ fn honest(test: &mut Test) {
     test.passes("distance", nearest_distance::NUMBERS, |run| {
         nearest_distance::compare(plain::nearest_distance, run)
     });
+}
+
+/// A comparison of corner reports, as long as it is by default, asks for each of the 256 masks.
+fn every_mask(test: &mut Test) {
+    let met = RefCell::new([false; 256]);
+    let mut run = Run::new(compare::SEED, compare::CALLS);
+    let call = |list: &[i16], asked| {
+        let answer = plain::corner(list, asked);
+        met.borrow_mut()[(answer & 255) as usize] = true;
+        answer
+    };
+    corner::compare(call, &mut run);
+    let masks = met.borrow().iter().filter(|&&met| met).count();
+    test.holds(&format!("{masks} of 256 masks are met"), masks == 256);
 }
 
 /// The table of times has a line for each map, and reports a library whose answers differ.
@@ -121,6 +139,7 @@ pub fn selftest() -> bool {
     examples::examples(&mut test);
     judges::judges(&mut test);
     honest(&mut test);
+    every_mask(&mut test);
     liars::liars(&mut test);
     times(&mut test);
     println!("{} tests, {} failed", test.tested, test.failed);

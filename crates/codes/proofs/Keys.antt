@@ -8,16 +8,15 @@
 --   keyOf-fits                         the range of keys
 --   pair-numbers, pairKey-fits         of the pair that is left when an axis is left out
 --   onLine-pairKey                     on one line: the same pair key, for any axis
-use mathlib.Core.Path.{_≡_, refl, sym, _∙_, ap, ap₂}
-use mathlib.Core.Bool.{Bool, true, false, _&&_, _||_}
-use Prim.Native.Nat.{ℕ, suc, _+_, _-_, _*_, _/_, _%_, _≤_, _<_}
+use mathlib.Core.Path.{_≡_, sym, _∙_, ap, ap₂}
+use mathlib.Core.Bool.{true, _&&_, _||_}
+use Prim.Native.Nat.{ℕ, _+_, _-_, _*_, _/_, _%_, _≤_, _<_}
 use native.Mathlib.Nat.{add-assoc}
 use native.Mathlib.Omega.{arith}
 use borrow.Author.Tests.{le-leb}
 use lib.Dec.{leb, ltb, eqb}
-use lib.IntN.{ℤ}
-use Rattle.meaning.specs.Numbers.{Axis, focus, first, second, Corner, Pair, corner, isNumber, isCorner, pairOf, number, steps}
-use Rattle.meaning.specs.Lists.{below, earlier, onLine, samePair}
+use Rattle.meaning.specs.Numbers.{Axis, focus, first, second, Corner, corner, isNumber, isCorner, pairOf, number, steps}
+use Rattle.meaning.specs.Lists.{below, onLine}
 use Rattle.codes.specs.Keys.{keyOf, planeOf, restOf, lineOf, lastOf, ofKey, pairKey}
 use Rattle.codes.proofs.Tests.{and-both, both-and, lex, lex-same}
 use Rattle.codes.proofs.Laws.{number-steps-le, steps-le, steps-lt, steps-same, number-steps, steps-number, isNumber-number}

@@ -11,20 +11,22 @@
 --   number-steps, steps-number            there and back
 --   number-le, number-lt, number-same, isNumber-number     of numbers given by their steps
 use mathlib.Core.Path.{_≡_, refl, sym, _∙_, ap, ap₂}
-use mathlib.Core.Bool.{Bool, true, false, _&&_}
-use Prim.Native.Nat.{ℕ, suc, _+_, _-_, _≤_, _<_, _^_}
+use mathlib.Core.Bool.{true, _&&_}
+use Prim.Native.Nat.{ℕ, _+_, _-_, _≤_, _<_, _^_}
 use native.Mathlib.Omega.{arith}
-use borrow.Author.Tests.{leb-true, le-leb, lt-leb}
+use borrow.Author.Tests.{leb-true, le-leb}
 use lib.Dec.{leb, ltb, eqb}
 use lib.IntN.{ℤ, pos, negsuc}
 use lib.Signed.{leZ, ltZ, mag}
 use mir.Syntax.{w16}
 use mir.Val.{SFits}
-use Rattle.meaning.specs.Numbers.{lowest, lastCode, lastNumber, isCode, isNumber, number, steps}
+use Rattle.meaning.specs.Numbers.{lowest, lastNumber, isCode, isNumber, number, steps}
 use Rattle.meaning.specs.Lists.{same}
+use Rattle.meaning.proofs.Integers as I
+pub use Rattle.meaning.proofs.Integers.{number-le, number-lt, steps-number, number-isNumber as isNumber-number}
 use Rattle.codes.specs.Lift.{lifted, lowered}
-use Rattle.codes.proofs.Tests.{and-both, leb-same}
-use Rattle.codes.proofs.Shift.{up, Above, up-le, up-lt, up-same, down-up, up-down, down-above, down-below, down-not}
+use Rattle.codes.proofs.Tests.{and-both, leb-same, leb-both}
+use Rattle.codes.proofs.Shift.{up, Above, up-le, up-lt, up-same, down-up, up-down, down-above}
 
 -- ---- the crossing is the shift by 32768
 
@@ -126,26 +128,10 @@ module _ (y z : ℤ) (ey : isNumber y ≡ true) (ez : isNumber z ≡ true) where
   steps-same = up-same 512 y z (above-number y ey) (above-number z ez) ∙ sym (ap₂ eqb (steps-up y) (steps-up z))
 
 pub number-steps : (z : ℤ) → isNumber z ≡ true → number (steps z) ≡ z
-number-steps z e = ap number (steps-up z) ∙ down-up 512 z (above-number z e)
-
-pub steps-number : (n : ℕ) → steps (number n) ≡ n
-steps-number n = steps-up (number n) ∙ up-down 512 n
-
--- a number given by its steps: the order, and the range
-back : (n : ℕ) → up 512 (number n) ≡ n
-back n = up-down 512 n
-
-pub number-le : (a b : ℕ) → leZ (number a) (number b) ≡ leb a b
-number-le a b = up-le 512 (number a) (number b) (down-above 512 a) (down-above 512 b) ∙ ap₂ leb (back a) (back b)
-
-pub number-lt : (a b : ℕ) → ltZ (number a) (number b) ≡ ltb a b
-number-lt a b = up-lt 512 (number a) (number b) (down-above 512 a) (down-above 512 b) ∙ ap₂ ltb (back a) (back b)
+number-steps z e = I.number-steps z (number-from z e)
 
 pub number-same : (a b : ℕ) → same (number a) (number b) ≡ eqb a b
-number-same a b = up-same 512 (number a) (number b) (down-above 512 a) (down-above 512 b) ∙ ap₂ eqb (back a) (back b)
-
-pub isNumber-number : (n : ℕ) → isNumber (number n) ≡ leb n 1024
-isNumber-number n = ap₂ _&&_ (number-le 0 n ∙ le-leb 0 n (omega arith)) (number-le n 1024)
+number-same a b = I.number-same a b ∙ leb-both a b
 
 pub isCode-number : (n : ℕ) → isCode (number n) ≡ leb n 1023
 isCode-number n = ap₂ _&&_ (number-le 0 n ∙ le-leb 0 n (omega arith)) (number-le n 1023)

@@ -50,7 +50,7 @@ module _ (S : Cell → Bool) (w : Cell) where
 
 -- ---- the least of a list
 
-natOrder : Order ℕ
+abbrev pub natOrder : Order ℕ
 natOrder =
     record {
       eq = eqb;
@@ -120,7 +120,7 @@ module _ (S : Cell → Bool) (within : WithinCodes S) (w : Cell) where
   rank v = (distance w (head v), v)
 
   nearest-of : (v : Corner) → S (head v) ≡ true → ((d : Cell) → S d ≡ true → pairOrder natOrder (solid .order) tuples .lt (rank (foot d)) (rank v) ≡ false) → Nearest S w (head v)
-  unfolding natOrder tuples
+  unfolding tuples
   nearest-of v e h =
       record {
         member = e;

@@ -3,6 +3,7 @@
 --   at                                     the vertex at a place
 --   outsideAt, fallsAt, onOddLineAt        what is wrong with the vertex at a place: refusals 3, 4 and 5
 --   verdict                                what the check says
+--   passes                                 the verdict is that the list is a travel map
 --   refusalNumber, refusalPlace            the number and the place that document 01's table gives a verdict
 use mathlib.Core.Bool.{Bool, true, false, not, _&&_, _||_, cond}
 use mathlib.Core.List.{List}
@@ -44,6 +45,14 @@ verdict ns =
     cond (eqb (length ns % 3) 0)
     (cond (ltb mostVertices (length (vertices ns))) TooMany (verdictOf (vertices ns)))
     NotTriples
+
+abbrev pub passes : Verdict → Bool
+passes Valid = true
+passes NotTriples = false
+passes TooMany = false
+passes (OutOfRange i) = false
+passes (NotRising i) = false
+passes (OddLine i) = false
 
 abbrev pub refusalNumber : Verdict → ℕ
 refusalNumber Valid = 0

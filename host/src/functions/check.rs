@@ -1,9 +1,9 @@
 //! The check of a list.
 
 use crate::bench::{Case, Table};
-use crate::compare::{answers, text, Run};
+use crate::compare::{answers, Run};
 use crate::judge::{number, Known};
-use crate::{make, plain};
+use crate::{damage, plain};
 
 /// The numbers that a check can answer.
 pub const NUMBERS: &[u8] = &[0, 1, 2, 3, 4, 5];
@@ -16,11 +16,11 @@ pub fn judge(list: &[i16]) -> u64 {
 /// Compares a check with the judge's.
 pub fn compare(call: impl Fn(&[i16]) -> u64, run: &mut Run) {
     while run.goes_on() {
-        let known = Known::new(make::any_list(&mut run.rng));
+        let known = Known::new(damage::any_list(&mut run.rng));
         let due = known.verdict.packed();
         let given = call(&known.list);
         run.count(number(due), given == due && known.untouched(), || {
-            format!("{} for {}", answers(due, given), text(&known.list))
+            format!("{} for {}", answers(due, given), known.text())
         });
     }
 }

@@ -5,7 +5,7 @@ use crate::bench::{Case, Table};
 use crate::compare::Run;
 use crate::judge::{number, Known};
 use crate::map::{permits, Cell};
-use crate::plain;
+use crate::{make, plain};
 
 /// The numbers that the report can answer.
 pub const NUMBERS: &[u8] = &[0, 1, 2, 3, 4, 5];
@@ -65,7 +65,7 @@ pub fn judge(known: &Known, asked: [i16; 3]) -> u64 {
 
 /// Compares a corner report with the judge's.
 pub fn compare(call: impl Fn(&[i16], [i16; 3]) -> u64, run: &mut Run) {
-    compare_asked(call, judge, number, run);
+    compare_asked(make::many_corners, call, judge, number, run);
 }
 
 /// Times a corner report.

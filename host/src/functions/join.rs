@@ -1,10 +1,10 @@
 //! Two maps joined.
 
 use crate::bench::{Case, Table};
-use crate::compare::{answers, text, Lent, Run};
+use crate::compare::{answers, Lent, Run};
 use crate::judge::{fits, number, put, Answer, Known, BAD_OPERATION, NO_ROOM};
 use crate::map::{cuts_of, list, Grid, MOST_VERTICES};
-use crate::{make, plain};
+use crate::{damage, make, plain};
 
 /// The numbers that a join can answer.
 pub const NUMBERS: &[u8] = &[0, 1, 2, 3, 4, 5, 6, 8];
@@ -87,8 +87,8 @@ fn answer(joined: &Result<Vec<i16>, Answer>, result: &mut [i16]) -> u64 {
 pub fn compare(call: impl Fn(u32, &[i16], &[i16], &mut [i16]) -> u64, run: &mut Run) {
     while run.goes_on() {
         let [one, other] = make::pair(&mut run.rng);
-        let one = Known::operand(make::maybe_damaged(&mut run.rng, one), 1);
-        let other = Known::operand(make::maybe_damaged(&mut run.rng, other), 2);
+        let one = Known::operand(damage::maybe_damaged(&mut run.rng, one), 1);
+        let other = Known::operand(damage::maybe_damaged(&mut run.rng, other), 2);
         for _ in 0..JOINS {
             let operation = run.rng.pick(&OPERATIONS);
             let joined = joined(operation, &one, &other);
@@ -105,8 +105,8 @@ pub fn compare(call: impl Fn(u32, &[i16], &[i16], &mut [i16]) -> u64, run: &mut 
                     "{}, {}, for operation {operation} of {} and {}",
                     answers(due, given),
                     due_result.difference(&result),
-                    text(&one.list),
-                    text(&other.list)
+                    one.text(),
+                    other.text()
                 )
             });
         }
@@ -123,8 +123,13 @@ pub fn time(
     for case in cases {
         for (operation, name) in [(1, "join, union"), (2, "join, overlap")] {
             let (mut one, mut other) = ([0; ROOM], [0; ROOM]);
+            let number = number(plain::join(operation, &case.list, &case.other, &mut other));
+            let name = match number {
+                NO_ROOM => format!("{name}, refused 6"),
+                _ => name.to_string(),
+            };
             table.row(
-                name,
+                &name,
                 case,
                 |_| call(operation, &case.list, &case.other, &mut one),
                 |_| plain::join(operation, &case.list, &case.other, &mut other),

@@ -40,27 +40,40 @@ pub fn judge(ends: [[i16; 2]; 3], result: &mut [i16]) -> u64 {
     .packed()
 }
 
-/// Two ends: mostly good ones.
-fn ends(rng: &mut Rng) -> [i16; 2] {
-    match rng.below(8) {
-        0 => [rng.pick(&ENDS), rng.pick(&ENDS)],
-        1 => [rng.bits() as i16, rng.bits() as i16],
-        2 => [0; 2].map(|_| rng.between(-520, 520) as i16),
-        3 => {
+/// Two ends: good ones, or, where `bad` says so, any.
+fn ends(rng: &mut Rng, bad: bool) -> [i16; 2] {
+    match rng.below(if bad { 6 } else { 1 }) {
+        1 => [rng.pick(&ENDS), rng.pick(&ENDS)],
+        2 => [rng.bits() as i16, rng.bits() as i16],
+        3 => [0; 2].map(|_| rng.between(-520, 520) as i16),
+        4 => {
             let low = rng.between(LOWEST, HIGHEST) as i16;
             [low, low + rng.between(-1, 1) as i16]
         }
-        _ => {
-            let low = rng.between(LOWEST, HIGHEST - 1);
-            [low as i16, rng.between(low + 1, HIGHEST) as i16]
-        }
+        _ => good_pair(rng),
     }
+}
+
+/// Good ends, now and then at the ends of the range.
+fn good_pair(rng: &mut Rng) -> [i16; 2] {
+    let low = match rng.below(4) {
+        0 => LOWEST,
+        1 => HIGHEST - 1,
+        _ => rng.between(LOWEST, HIGHEST - 1),
+    };
+    let high = match rng.below(4) {
+        0 => low + 1,
+        1 => HIGHEST,
+        _ => rng.between(low + 1, HIGHEST),
+    };
+    [low as i16, high as i16]
 }
 
 /// Compares a box with the judge's.
 pub fn compare(call: impl Fn([[i16; 2]; 3], &mut [i16]) -> u64, run: &mut Run) {
     while run.goes_on() {
-        let ends = [0; 3].map(|_| ends(&mut run.rng));
+        let bad = run.rng.once_in(2);
+        let ends = [0; 3].map(|_| ends(&mut run.rng, bad));
         let length = make::room(&mut run.rng, BOX_NUMBERS);
         let mut due_result = Lent::new(&mut run.rng, length);
         let mut result = due_result.clone();

@@ -2,10 +2,11 @@
 //! timed. The list below names the functions that are compared with the library.
 
 use crate::bench::{Case, Table};
-use crate::compare::{answers, text, Run};
+use crate::compare::{answers, Run};
 use crate::judge::Known;
 use crate::lib_calls;
 use crate::make;
+use crate::rng::Rng;
 
 pub mod cell;
 pub mod check;
@@ -15,6 +16,7 @@ pub mod make_box;
 pub mod nearest;
 pub mod nearest_distance;
 pub mod plane;
+pub mod program;
 pub mod section;
 pub mod split;
 
@@ -57,24 +59,21 @@ pub const FUNCTIONS: &[Function] = &[
 
 /// Compares a function of a list and three numbers; `number` reads the refusal in an answer.
 fn compare_asked(
+    make_list: impl Fn(&mut Rng) -> Vec<i16>,
     call: impl Fn(&[i16], [i16; 3]) -> u64,
     judge: impl Fn(&Known, [i16; 3]) -> u64,
     number: impl Fn(u64) -> u8,
     run: &mut Run,
 ) {
     while run.goes_on() {
-        let known = Known::new(make::mostly_valid(&mut run.rng));
+        let known = Known::new(make_list(&mut run.rng));
         for _ in 0..QUESTIONS {
             let asked = make::asked(&mut run.rng, &known.vertices);
             let due = judge(&known, asked);
             let given = call(&known.list, asked);
             let same = given == due && known.untouched();
             run.count(number(due), same, || {
-                format!(
-                    "{} for {asked:?} of {}",
-                    answers(due, given),
-                    text(&known.list)
-                )
+                format!("{} for {asked:?} of {}", answers(due, given), known.text())
             });
         }
     }

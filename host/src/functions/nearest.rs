@@ -5,7 +5,7 @@ use crate::bench::{Case, Table};
 use crate::compare::Run;
 use crate::judge::{Known, DONE, EMPTY};
 use crate::map::Cell;
-use crate::plain;
+use crate::{damage, plain};
 
 /// The numbers that nearest can answer.
 pub const NUMBERS: &[u8] = &[0, 1, 2, 3, 4, 5, 7];
@@ -35,7 +35,7 @@ fn number(packed: u64) -> u8 {
 
 /// Compares nearest with the judge's.
 pub fn compare(call: impl Fn(&[i16], [i16; 3]) -> u64, run: &mut Run) {
-    compare_asked(call, judge, number, run);
+    compare_asked(damage::mostly_valid, call, judge, number, run);
 }
 
 /// Times nearest.

@@ -6,7 +6,7 @@ use crate::bench::{Case, Table};
 use crate::compare::Run;
 use crate::judge::{number, Answer, Known};
 use crate::map::distance;
-use crate::plain;
+use crate::{damage, plain};
 
 /// The numbers that the distance can answer.
 pub const NUMBERS: &[u8] = super::nearest::NUMBERS;
@@ -22,7 +22,7 @@ pub fn judge(known: &Known, wish: [i16; 3]) -> u64 {
 
 /// Compares a distance with the judge's.
 pub fn compare(call: impl Fn(&[i16], [i16; 3]) -> u64, run: &mut Run) {
-    compare_asked(call, judge, number, run);
+    compare_asked(damage::mostly_valid, call, judge, number, run);
 }
 
 /// Times a distance.

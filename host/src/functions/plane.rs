@@ -2,9 +2,9 @@
 
 use super::QUESTIONS;
 use crate::bench::{Case, Table};
-use crate::compare::{text, Run};
+use crate::compare::Run;
 use crate::judge::Known;
-use crate::{make, plain};
+use crate::{damage, make, plain};
 
 /// The plane query answers with its part alone.
 pub const NUMBERS: &[u8] = &[0, 1, 2, 3, 4, 5];
@@ -16,7 +16,7 @@ pub fn judge(known: &Known, focus: i16) -> u64 {
         None => 0,
         Some(start) => {
             let count = known.vertices.iter().filter(|v| at_focus(v)).count();
-            (3 * start as u64) << 32 | 3 * count as u64
+            ((3 * start as u64) << 32) | (3 * count as u64)
         }
     }
 }
@@ -24,14 +24,14 @@ pub fn judge(known: &Known, focus: i16) -> u64 {
 /// Compares a plane query with the judge's; the numbers that are counted are those of the check.
 pub fn compare(call: impl Fn(&[i16], i16) -> u64, run: &mut Run) {
     while run.goes_on() {
-        let known = Known::new(make::mostly_valid(&mut run.rng));
+        let known = Known::new(damage::mostly_valid(&mut run.rng));
         for _ in 0..QUESTIONS {
             let [focus, _, _] = make::asked(&mut run.rng, &known.vertices);
             let due = judge(&known, focus);
             let given = call(&known.list, focus);
             let same = given == due && known.untouched();
             run.count(known.verdict.number, same, || {
-                let list = text(&known.list);
+                let list = known.text();
                 format!("should be {due:#x} and is {given:#x} for focus {focus} of {list}")
             });
         }

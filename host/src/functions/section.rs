@@ -2,32 +2,24 @@
 
 use super::QUESTIONS;
 use crate::bench::{Case, Table};
-use crate::compare::{answers, text, Lent, Run};
+use crate::compare::{answers, Lent, Run};
 use crate::judge::{fits, number, put, Answer, Known, BAD_NUMBER, NO_ROOM};
 use crate::map::{HIGHEST_CODE, LOWEST, MOST_VERTICES};
-use crate::{make, plain};
+use crate::rng::Rng;
+use crate::{damage, make, plain};
 
 /// The numbers that a section can answer.
 pub const NUMBERS: &[u8] = &[0, 1, 2, 3, 4, 5, 6, 9];
-/// Axes to ask: good ones, and some that are good only when they are cut short.
-pub const AXES_ASKED: [u32; 16] = [
-    0,
-    1,
-    2,
-    0,
-    1,
-    2,
-    0,
-    1,
-    2,
-    0,
-    1,
-    2,
-    3,
-    256,
-    65536,
-    0x8000_0001,
-];
+/// Axes that are refused; some are good when they are cut short.
+const BAD_AXES: [u32; 6] = [3, 4, 256, 257, 0x1_0002, 0x8000_0001];
+
+/// An axis to ask: mostly a good one.
+pub fn axis_asked(rng: &mut Rng) -> u32 {
+    match rng.once_in(12) {
+        true => rng.pick(&BAD_AXES),
+        false => rng.below(3) as u32,
+    }
+}
 
 /// The section's list, or the refusal of what is asked.
 fn pairs(known: &Known, axis: u32, code: i16) -> Result<Vec<i16>, Answer> {
@@ -60,9 +52,9 @@ pub fn judge(known: &Known, axis: u32, code: i16, result: &mut [i16]) -> u64 {
 /// Compares a section with the judge's.
 pub fn compare(call: impl Fn(&[i16], u32, i16, &mut [i16]) -> u64, run: &mut Run) {
     while run.goes_on() {
-        let known = Known::new(make::mostly_valid(&mut run.rng));
+        let known = Known::new(damage::mostly_valid(&mut run.rng));
         for _ in 0..QUESTIONS {
-            let axis = run.rng.pick(&AXES_ASKED);
+            let axis = axis_asked(&mut run.rng);
             let code = make::asked(&mut run.rng, &known.vertices)[axis as usize % 3];
             let need = pairs(&known, axis, code).map_or(12, |list| list.len());
             let length = make::room(&mut run.rng, need);
@@ -76,7 +68,7 @@ pub fn compare(call: impl Fn(&[i16], u32, i16, &mut [i16]) -> u64, run: &mut Run
                     "{}, {}, for axis {axis} code {code} of {}",
                     answers(due, given),
                     due_result.difference(&result),
-                    text(&known.list)
+                    known.text()
                 )
             });
         }

@@ -1,11 +1,11 @@
 //! The two halves of a map at a corner number of an axis.
 
-use super::section::AXES_ASKED;
+use super::section::axis_asked;
 use crate::bench::{Case, Table};
-use crate::compare::{answers, text, Lent, Run};
+use crate::compare::{answers, Lent, Run};
 use crate::judge::{fits, number, put, Answer, Known, BAD_NUMBER, NO_ROOM};
 use crate::map::{cuts_of, list, Grid, HIGHEST, LOWEST, MOST_VERTICES};
-use crate::{make, plain};
+use crate::{damage, make, plain};
 
 /// The numbers that a split can answer.
 pub const NUMBERS: &[u8] = &[0, 1, 2, 3, 4, 5, 6, 9];
@@ -56,9 +56,9 @@ pub fn judge(known: &Known, axis: u32, at: i16, low: &mut [i16], high: &mut [i16
 /// Compares a split with the judge's.
 pub fn compare(call: impl Fn(&[i16], u32, i16, &mut [i16], &mut [i16]) -> u64, run: &mut Run) {
     while run.goes_on() {
-        let known = Known::new(make::mostly_valid(&mut run.rng));
+        let known = Known::new(damage::mostly_valid(&mut run.rng));
         for _ in 0..SPLITS {
-            let axis = run.rng.pick(&AXES_ASKED);
+            let axis = axis_asked(&mut run.rng);
             let at = make::asked(&mut run.rng, &known.vertices)[axis as usize % 3];
             let need = halves(&known, axis, at).map_or([12; 2], |h| h.map(|l| l.len()));
             let mut due_results = need.map(|n| {
@@ -77,7 +77,7 @@ pub fn compare(call: impl Fn(&[i16], u32, i16, &mut [i16], &mut [i16]) -> u64, r
                     answers(due, given),
                     due_results[0].difference(&results[0]),
                     due_results[1].difference(&results[1]),
-                    text(&known.list)
+                    known.text()
                 )
             });
         }

@@ -120,6 +120,6 @@ pub fn plane(list: &[i16], focus: i16) -> u64 {
     let length = all[start..].partition_point(|v| v[0] == focus);
     match length {
         0 => 0,
-        _ => (3 * start as u64) << 32 | 3 * length as u64,
+        _ => ((3 * start as u64) << 32) | (3 * length as u64),
     }
 }

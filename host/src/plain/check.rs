@@ -23,7 +23,7 @@ pub fn check(list: &[i16]) -> u64 {
 
 /// The refusal of a list that is this operand, or 0.
 pub fn verdict(list: &[i16], operand: u64) -> u64 {
-    if list.len() % 3 != 0 {
+    if !list.len().is_multiple_of(3) {
         return refusal(1, operand, 0);
     }
     if list.len() > 3 * MOST {
@@ -63,7 +63,7 @@ fn middle_bit(v: [i16; 3]) -> (usize, u64) {
 fn odd_place(all: &[[i16; 3]], first: &mut [u64]) -> Option<usize> {
     let mut middle = [0u64; MIDDLE_WORDS];
     let (mut first_ones, mut middle_ones) = (0i32, 0i32);
-    let mut good = all.len() % 2 == 0;
+    let mut good = all.len().is_multiple_of(2);
     let mut plane = LOW;
     for pair in all.chunks(2) {
         good &= pair[0][..2] == pair[pair.len() - 1][..2];

@@ -1,7 +1,7 @@
 //! Join: a sweep over the planes of both maps, with sections as rows of bits.
 
 use super::check::verdict;
-use super::rows::{Axis, Rows};
+use super::rows::{Axis, Part, Rows};
 use super::{refusal, vertices, MOST};
 
 /// The vertices put out so far.
@@ -52,42 +52,40 @@ fn sweep(lists: [&[[i16; 3]]; 2], room: usize, op: impl Fn(u64, u64) -> u64) -> 
     let mut rest = lists;
     let mut before = vec![0; words];
     while let Some(x) = rest.iter().filter_map(|r| r.first()).map(|v| v[0]).min() {
-        let (mut from, mut to) = (usize::MAX, 0);
+        let mut changed: Option<Part> = None;
         for (section, rest) in sections.iter_mut().zip(&mut rest) {
             let length = rest.iter().take_while(|v| v[0] == x).count();
             if length > 0 {
                 let (plane, behind) = rest.split_at(length);
-                let (low, high) = section.flip(plane, &first, &second);
-                (from, to) = (from.min(low), to.max(high));
+                let part = section.flip(plane, &first, &second);
+                changed = Some(match changed {
+                    None => part,
+                    Some(other) => other.and(part),
+                });
                 *rest = behind;
             }
         }
-        before.fill(0);
-        for row in from..to {
+        let part = changed?;
+        before[part.words.clone()].fill(0);
+        for row in part.rows.clone() {
             let mut carry = 0;
-            for word in 0..words {
+            for word in part.words.clone() {
                 let at = row * words + word;
                 let now = op(sections[0].bits[at], sections[1].bits[at]);
                 let change = now ^ joined.bits[at];
                 joined.bits[at] = now;
                 let edge = change ^ before[word];
                 before[word] = change;
-                out.put(
-                    edge,
-                    &mut carry,
-                    [x, first.numbers[row]],
-                    &second.numbers[word * 64..],
-                )?;
+                if edge | carry != 0 {
+                    let xy = [x, first.numbers[row]];
+                    out.put(edge, &mut carry, xy, &second.numbers[word * 64..])?;
+                }
             }
         }
         let mut carry = 0;
-        for (word, &edge) in before.iter().enumerate() {
-            out.put(
-                edge,
-                &mut carry,
-                [x, first.numbers[to]],
-                &second.numbers[word * 64..],
-            )?;
+        for word in part.words {
+            let xy = [x, first.numbers[part.rows.end]];
+            out.put(before[word], &mut carry, xy, &second.numbers[word * 64..])?;
         }
     }
     Some(out.numbers)

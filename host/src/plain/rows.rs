@@ -1,6 +1,8 @@
 //! The section of a map as rows of bits: a row for each stretch of the first shift, a bit for each stretch of the
 //! second. A plane of vertices flips part of it.
 
+use std::ops::Range;
+
 /// Words for one bit a corner number.
 const WORDS: usize = 1025usize.div_ceil(64);
 
@@ -66,15 +68,18 @@ impl Rows {
         }
     }
 
-    /// Flips what a plane of vertices flips; the rows from the first to before the last that it names.
-    pub fn flip(&mut self, plane: &[[i16; 3]], first: &Axis, second: &Axis) -> (usize, usize) {
+    /// Flips what a plane of vertices flips; says where that is.
+    pub fn flip(&mut self, plane: &[[i16; 3]], first: &Axis, second: &Axis) -> Part {
         let from = first.rank(plane[0][1]);
         let mut row = from;
+        let words = Part::words(plane, second);
         for line in plane.chunk_by(|a, b| a[1] == b[1]) {
             let next = first.rank(line[0][1]);
-            for at in row..next {
-                let cells = &mut self.bits[at * self.words..][..self.words];
-                cells.iter_mut().zip(&self.flip).for_each(|(c, f)| *c ^= f);
+            let flip = &self.flip[words.clone()];
+            for cells in self.bits[row * self.words..next * self.words].chunks_exact_mut(self.words)
+            {
+                let cells = &mut cells[words.clone()];
+                cells.iter_mut().zip(flip).for_each(|(c, f)| *c ^= f);
             }
             row = next;
             for ends in line.chunks_exact(2) {
@@ -85,7 +90,35 @@ impl Rows {
                 );
             }
         }
-        (from, row)
+        Part {
+            rows: from..row,
+            words,
+        }
+    }
+}
+
+/// A part of a section: some rows, and some words of each.
+pub struct Part {
+    pub rows: Range<usize>,
+    pub words: Range<usize>,
+}
+
+impl Part {
+    /// The words that a plane of vertices names.
+    fn words(plane: &[[i16; 3]], second: &Axis) -> Range<usize> {
+        let (low, high) = plane.iter().fold((i16::MAX, i16::MIN), |(low, high), v| {
+            (low.min(v[2]), high.max(v[2]))
+        });
+        second.rank(low) / 64..second.rank(high) / 64 + 1
+    }
+
+    /// The least part that holds both.
+    pub fn and(self, other: Part) -> Part {
+        let hull = |a: Range<usize>, b: Range<usize>| a.start.min(b.start)..a.end.max(b.end);
+        Part {
+            rows: hull(self.rows, other.rows),
+            words: hull(self.words, other.words),
+        }
     }
 }
 

@@ -55,6 +55,7 @@ pub fn examples(test: &mut Test) {
     cells(test);
     joins(test);
     cuts(test);
+    programs(test);
 }
 
 /// Examples 1 to 4 and 12: the check.
@@ -162,4 +163,36 @@ fn cuts(test: &mut Test) {
     );
     let ends = [[0, 1], [0, 1], [0, 513]];
     test.holds("9 before 6", number(make_box::judge(ends, &mut [])) == 9);
+}
+
+/// The whole case of the program, refusals of each kind, and wishes of the empty map.
+fn programs(test: &mut Test) {
+    const MAP: &str = "010008\n02FFFF00000000\n02FFFF00000001\n02FFFF00010000\n02FFFF00010001\n\
+        02000000000000\n02000000000001\n02000000010000\n02000000010001\n03000C\n";
+    let wishes = "04FFFD00000000\n04000500050005\n";
+    let mut writes = |input: &str, due: &str| {
+        let (_, output) = program::judge(input.as_bytes());
+        test.holds(&format!("program: {input:?}"), output == due);
+    };
+    let answer = "0500FFFF00000000\n";
+    writes(&format!("{MAP}{wishes}"), &answer.repeat(2));
+    writes(MAP, "");
+    writes("", "060A0001\n");
+    writes("010401\n", "06020000\n");
+    writes("010401", "060A0001\n");
+    writes(&MAP.replace("03000C", "03000D"), "060B0000\n");
+    writes(&MAP.replace("03000C", "03000c"), "060A000A\n");
+    writes(&MAP.replace("0008", "0009"), "060A000A\n");
+    writes(&MAP.replace("0008", "0007"), "060A0009\n");
+    writes("010001\n02020100000000\n030202\n", "06030000\n");
+    writes("010001\n02000000000000\n030001\n", "06050000\n");
+    writes(
+        &format!("010000\n030000\n{wishes}"),
+        &"0507000000000000\n".repeat(2),
+    );
+    writes("010000\n030000\n04", "060A0003\n");
+    let wish = "04000000000000\n";
+    writes(&format!("{MAP}{}", wish.repeat(256)), &answer.repeat(256));
+    writes(&format!("{MAP}{}", wish.repeat(257)), "060A010B\n");
+    writes(&"0".repeat(19_215), "060C0000\n");
 }

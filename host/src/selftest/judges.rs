@@ -1,6 +1,7 @@
 //! The judge against the definitions themselves: cell by cell, corner by corner and line by line, on short maps.
 
 use super::Test;
+use crate::damage;
 use crate::functions::corner::kind;
 use crate::judge::check;
 use crate::make;
@@ -30,7 +31,7 @@ pub fn judges(test: &mut Test) {
             narrow += 1;
             same_cell_by_cell(test, &mut rng, &map, cuts);
         }
-        check_line_by_line(test, &make::any_list(&mut rng));
+        check_line_by_line(test, &damage::any_list(&mut rng));
     }
     test.holds("narrow maps", narrow > MAPS / 10);
 }
@@ -106,7 +107,7 @@ fn check_line_by_line(test: &mut Test, list: &[i16]) {
     let on_line = |v: &Corner, w: &Corner, axis| (0..AXES).all(|a| a == axis || v.0[a] == w.0[a]);
     let count = |v: &Corner, axis| vertices.iter().filter(|w| on_line(v, w, axis)).count();
     let odd = |v: &Corner| (0..AXES).any(|axis| count(v, axis) % 2 == 1);
-    let out = |v: &Corner| v.0.iter().any(|&n| n < -512 || n > 512);
+    let out = |v: &Corner| v.0.iter().any(|n| !(-512..=512).contains(n));
     let place_of = |p: Option<usize>, number| p.map(|place| (number, place));
     let falls = (1..vertices.len()).find(|&at| vertices[at].0 <= vertices[at - 1].0);
     let due = match list.len() % 3 {

@@ -1,13 +1,12 @@
 -- `codes::lift` meets its contract: the sum in 32 bits is the number's crossing, which has 16 bits.
-use mathlib.Core.Path.{_≡_, sym, ap, subst⁻¹}
+use mathlib.Core.Path.{ap, subst⁻¹}
 use lib.Dec.{T}
-use lib.IntN.{ℤ, pos, natAbs}
+use lib.IntN.{natAbs}
 use lib.Signed.{nonNeg}
 use native.Mathlib.Omega.{arith}
 use mir.Syntax.{w16, w32}
 use mir.Val.{SFits, Fits}
 use mir.ValLaws.{toZ-ofZ}
-use Rattle.codes.specs.Lift.{lifted}
 use Rattle.codes.proofs.Laws.{lifted-fits}
 use Rattle.codes.proofs.Sums.{wide, lifted-sum, lifted-back}
 use Rattle.codes.proofs.lift.Statement.{statement}

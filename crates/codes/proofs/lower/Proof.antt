@@ -1,5 +1,5 @@
 -- `codes::lower` meets its contract: the difference in 32 bits is the number that the shift back gives, which has 16 bits.
-use mathlib.Core.Path.{_≡_, _∙_, ap, subst⁻¹}
+use mathlib.Core.Path.{_∙_, ap, subst⁻¹}
 use native.Mathlib.Omega.{arith}
 use mir.Syntax.{w16, w32}
 use mir.Val.{SFits, toZ, ofZ}

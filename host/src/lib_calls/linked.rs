@@ -1,5 +1,5 @@
-//! The functions of the static library as C declares them, and a safe call of each. A slice is a pointer and a
-//! length. A call that functions/mod.rs does not name is not linked, so that the library may lack it.
+//! The functions as C declares them, linked from the static library, and a safe call of each. A slice is a pointer
+//! and a length. A call that functions/mod.rs does not name is not linked, so that the library may lack it.
 
 #[link(name = "travelmap", kind = "static")]
 extern "C" {

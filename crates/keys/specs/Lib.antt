@@ -1,0 +1,2 @@
+-- The parts of keys and of pair keys.
+pub mod Parts

@@ -1,0 +1,65 @@
+-- `lists::first_odd_pair` meets its contract: the working list is the list of pair keys, for whatever axis has these offsets.
+use mathlib.Core.Path.{sym, ap, _∙_}
+use mathlib.Core.List.{List}
+use Prim.Native.Nat.{ℕ, _/_, _≤_}
+use borrow.Author.Needs.{needs}
+use native.Mathlib.Omega.{arith}
+use denote.Ref.{now}
+use lib.IntN.{ℤ}
+use lib.ListN.{length, take}
+use lib.Seq.{length-take-le}
+use Rattle.meaning.specs.Lists.{vertices}
+use Rattle.lines.specs.Odd.{firstOdd}
+use Rattle.lists.proofs.Lines.{keys-filled, first-odd-line}
+use Rattle.lists.proofs.Vertices.{length-vertices}
+use Rattle.lists.proofs.first_odd_pair.Statement.{statement}
+use Rattle.lists.proofs.first_odd_pair.Tie as tie
+
+abbrev numbers : tie.Start → List ℤ
+numbers c = now (c .args .list)
+
+-- the working list after it is filled, and that the vertices fit it
+abbrev keys : tie.After-fill → List ℕ
+keys c = c .fill .last .1 .1 .1 .0
+
+room : (c : tie.After-fill) → length (vertices (numbers (c .before .before .before))) ≤ length (keys c)
+room c = omega (arith, c .fill .kept .1 .1 .1 .0, c .before .before .before .pre)
+
+fill-requires : tie.Need-fill-requires
+fill-requires c κs = search needs
+
+slice-reshare-prefix-first-odd-key : tie.Need-slice-reshare-prefix-first-odd-key
+slice-reshare-prefix-first-odd-key c = omega (arith, room (c .before .before), length-vertices (numbers (c .before .before .before .before .before)))
+
+slice-aggregate-first-odd-key : tie.Need-slice-aggregate-first-odd-key
+slice-aggregate-first-odd-key c =
+    let k = c .before .before .before in
+    let l = numbers (k .before .before .before) in
+    sym (length-take-le (length l / 3) (keys k) (omega (arith, room k, length-vertices l)))
+
+first-odd-key-requires : tie.Need-first-odd-key-requires
+first-odd-key-requires c κs = search needs
+
+same-length : tie.Need-same-length
+same-length c = search needs
+
+returns : tie.Need-returns
+returns c axis offsets =
+    let k = c .before .before .before .before in
+    let start = k .before .before .before in
+    let l = numbers start in
+    c .first-odd-key .ensures ∙
+    ap (λ n. firstOdd (take n (keys k))) (sym (length-vertices l)) ∙
+    ap firstOdd (keys-filled axis l (start .args .a) (start .args .b) offsets (keys k) (room k) (k .fill .ensures)) ∙
+    first-odd-line axis l (start .pre .0)
+
+pub first-odd-pair-spec : {M : Type 1} → statement M
+first-odd-pair-spec =
+    tie.close
+    (tie.spec
+    fill-requires
+    slice-reshare-prefix-first-odd-key
+    slice-aggregate-first-odd-key
+    first-odd-key-requires
+    same-length
+    returns)

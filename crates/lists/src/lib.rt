@@ -1,0 +1,336 @@
+// The check of a list, and the list of a box. It relies on `codes` for numbers and keys and on `lines` for odd lines.
+ghost use mathlib.Core.Path.{_≡_};
+ghost use mathlib.Core.Bool.{true};
+ghost use Prim.Native.Nat.{_+_, _*_, _<_, _≤_, min};
+ghost use lib.IntN.{pos};
+ghost use mathlib.Core.List.{_++_};
+ghost use lib.ListN.{length, getD, drop};
+ghost use Rattle.meaning.specs.Numbers.{Axis, isNumber, isCorner};
+ghost use Rattle.meaning.specs.Counting.{first};
+ghost use Rattle.meaning.specs.Lists.{vertices, numbers, mostVertices};
+ghost use Rattle.meaning.specs.Verdicts.{outsideAt, fallsAt, onOddLineAt};
+ghost use Rattle.lines.specs.Odd.{firstOdd};
+ghost use Rattle.codes.specs.Keys.{cornerAt};
+ghost use Rattle.lists.specs.Box.{goodEnd, goodEnds, boxVertices, BoxMade};
+ghost use Rattle.lists.specs.Check.{Checked, InRange, Offsets, Filled, firstOn};
+use codes::HIGHEST;
+use codes::LINE;
+use codes::LOWEST;
+use meaning::MOST_VERTICES;
+use meaning::Verdict;
+
+// The numbers of a vertex.
+const NUMBERS: usize = 3;
+
+// The most vertices for which the working array is a small one.
+const SMALL: usize = 32;
+
+// Whether the number at place i is a corner number.
+fn number_at(list: &[i16], i: usize) -> bool
+    requires { ⌜ i < length (now list) ⌝ }
+    ensures { λ r. ⌜ r ≡ isNumber (getD (now (list .entry)) i (pos 0)) ⌝ }
+{
+    let u = codes::lift_at(list, i);
+    if u < LOWEST {
+        return false;
+    }
+    u <= HIGHEST
+}
+
+// Whether vertex i is a corner.
+fn corner_at(list: &[i16], i: usize) -> bool
+    requires { ⌜ 3 * i + 2 < length (now list) ⌝ }
+    ensures { λ r. ⌜ r ≡ isCorner (cornerAt (now (list .entry)) i) ⌝ }
+{
+    if !number_at(list, NUMBERS * i) {
+        return false;
+    }
+    if !number_at(list, NUMBERS * i + 1) {
+        return false;
+    }
+    number_at(list, NUMBERS * i + 2)
+}
+
+// The first vertex that is no corner, or the count of vertices.
+fn first_outside(list: &[i16]) -> usize
+    ensures { λ r. ⌜ r ≡ first (outsideAt (vertices (now (list .entry)))) (length (vertices (now (list .entry)))) ⌝ }
+{
+    let n = list.len() / NUMBERS;
+    let mut place = 0;
+    while place < n {
+        if !corner_at(list, place) {
+            return place;
+        }
+        place += 1;
+    }
+    n
+}
+
+// The first vertex that does not stand above the one before it, or the count of vertices.
+fn first_falling(list: &[i16]) -> usize
+    requires { ⌜ InRange (now list) ⌝ }
+    ensures { λ r. ⌜ r ≡ first (fallsAt (vertices (now (list .entry)))) (length (vertices (now (list .entry)))) ⌝ }
+{
+    let n = list.len() / NUMBERS;
+    if n == 0 {
+        return 0;
+    }
+    let mut last = codes::key_at(list, 0);
+    let mut i = 1;
+    while i < n {
+        let key = codes::key_at(list, i);
+        if key <= last {
+            return i;
+        }
+        last = key;
+        i += 1;
+    }
+    n
+}
+
+// Writes, for each vertex, its numbers at offsets a and b as one number.
+fn fill(list: &[i16], a: usize, b: usize, keys: &mut [u32])
+    requires { ⌜ InRange (now list) ⌝ }
+    requires { ⌜ (a < 3) × (b < 3) ⌝ }
+    requires { ⌜ length (vertices (now list)) ≤ length (now keys) ⌝ }
+    ensures { λ r. ⌜ Filled (now (list .entry)) a b (length (vertices (now (list .entry)))) (now (keys .exit)) ⌝ }
+{
+    let n = list.len() / NUMBERS;
+    let mut i = 0;
+    while i < n {
+        let one = codes::steps_at(list, NUMBERS * i + a);
+        let two = codes::steps_at(list, NUMBERS * i + b);
+        keys[i] = one * LINE + two;
+        i += 1;
+    }
+}
+
+// The lesser of two places.
+fn lesser(a: usize, b: usize) -> usize
+    ensures { λ r. ⌜ r ≡ min a b ⌝ }
+{
+    if a < b { a } else { b }
+}
+
+// Whether each key at an even place is followed by the same key: then every key occurs an even number of times.
+fn paired(keys: &[u32]) -> bool
+    ensures { λ r. ⌜ (r ≡ true → firstOdd (now (keys .entry)) ≡ length (now (keys .entry))) ⌝ }
+{
+    let mut i = 0;
+    while i + 1 < keys.len() {
+        if keys[i] != keys[i + 1] {
+            return false;
+        }
+        i += 2;
+    }
+    i == keys.len()
+}
+
+// The first place whose key occurs an odd number of times, or the count of keys.
+fn first_odd_key(keys: &[u32]) -> usize
+    ensures { λ r. ⌜ r ≡ firstOdd (now (keys .entry)) ⌝ }
+{
+    if paired(keys) {
+        return keys.len();
+    }
+    lines::first_odd(keys)
+}
+
+// The first vertex whose numbers at offsets a and b are those of an odd number of vertices, or the count of vertices.
+fn first_odd_pair(list: &[i16], a: usize, b: usize, keys: &mut [u32]) -> usize
+    requires { ⌜ InRange (now list) ⌝ }
+    requires { ⌜ (a < 3) × (b < 3) ⌝ }
+    requires { ⌜ length (vertices (now list)) ≤ length (now keys) ⌝ }
+    requires { ⌜ length (vertices (now list)) ≤ mostVertices ⌝ }
+    ensures { λ r. ⌜ ((axis : Axis) → Offsets axis a b → r ≡ firstOn axis (vertices (now (list .entry)))) ⌝ }
+{
+    let n = list.len() / NUMBERS;
+    fill(list, a, b, keys);
+    first_odd_key(&keys[..n])
+}
+
+// The first vertex on an odd line of any axis, or the count of vertices; keys is room to work in.
+fn first_with_room(list: &[i16], keys: &mut [u32]) -> usize
+    requires { ⌜ InRange (now list) ⌝ }
+    requires { ⌜ length (vertices (now list)) ≤ length (now keys) ⌝ }
+    requires { ⌜ length (vertices (now list)) ≤ mostVertices ⌝ }
+    ensures { λ r. ⌜ r ≡ first (onOddLineAt (vertices (now (list .entry)))) (length (vertices (now (list .entry)))) ⌝ }
+{
+    let along_second = first_odd_pair(list, 0, 1, keys);
+    if along_second == 0 {
+        return 0;
+    }
+    let along_focus = first_odd_pair(list, 1, 2, keys);
+    if along_focus == 0 {
+        return 0;
+    }
+    let along_first = first_odd_pair(list, 0, 2, keys);
+    lesser(along_focus, lesser(along_first, along_second))
+}
+
+// The same with room of its own for few vertices.
+fn first_of_few(list: &[i16]) -> usize
+    requires { ⌜ InRange (now list) ⌝ }
+    requires { ⌜ length (vertices (now list)) ≤ 32 ⌝ }
+    ensures { λ r. ⌜ r ≡ first (onOddLineAt (vertices (now (list .entry)))) (length (vertices (now (list .entry)))) ⌝ }
+{
+    let mut keys = [0u32; SMALL];
+    first_with_room(list, &mut keys)
+}
+
+// The same with room of its own for as many vertices as a list may have.
+fn first_of_many(list: &[i16]) -> usize
+    requires { ⌜ InRange (now list) ⌝ }
+    requires { ⌜ length (vertices (now list)) ≤ mostVertices ⌝ }
+    ensures { λ r. ⌜ r ≡ first (onOddLineAt (vertices (now (list .entry)))) (length (vertices (now (list .entry)))) ⌝ }
+{
+    let mut keys = [0u32; MOST_VERTICES];
+    first_with_room(list, &mut keys)
+}
+
+// The same with room for the list's vertices.
+fn first_on_odd_line(list: &[i16]) -> usize
+    requires { ⌜ InRange (now list) ⌝ }
+    requires { ⌜ length (vertices (now list)) ≤ mostVertices ⌝ }
+    ensures { λ r. ⌜ r ≡ first (onOddLineAt (vertices (now (list .entry)))) (length (vertices (now (list .entry)))) ⌝ }
+{
+    if list.len() <= NUMBERS * SMALL {
+        return first_of_few(list);
+    }
+    first_of_many(list)
+}
+
+// What document 01 says of a list: that it is a travel map, or why not.
+pub fn check(list: &[i16]) -> Verdict
+    ensures { λ r. ⌜ Checked (now (list .entry)) r ⌝ }
+{
+    let n = list.len() / NUMBERS;
+    if list.len() % NUMBERS != 0 {
+        return Verdict::NotTriples;
+    }
+    if MOST_VERTICES < n {
+        return Verdict::TooMany;
+    }
+    let outside = first_outside(list);
+    if outside < n {
+        return Verdict::OutOfRange(outside);
+    }
+    let falling = first_falling(list);
+    if falling < n {
+        return Verdict::NotRising(falling);
+    }
+    let odd = first_on_odd_line(list);
+    if odd < n {
+        return Verdict::OddLine(odd);
+    }
+    Verdict::Valid
+}
+
+// What making a box answers.
+pub enum Boxed {
+    // The eight vertices stand at the front of the result.
+    Done,
+    // An end is out of range, or a high end is not above its low end.
+    BadEnds,
+    // Fewer than 24 numbers are lent.
+    NoRoom,
+}
+
+// The numbers of a box's list.
+const BOX_NUMBERS: usize = 24;
+
+// Whether an axis may have these ends: low a code, high above it and at most the last corner number.
+fn good_end(low: i16, high: i16) -> bool
+    ensures { λ r. ⌜ r ≡ goodEnd low high ⌝ }
+{
+    let from = codes::lift(low);
+    let to = codes::lift(high);
+    if from < LOWEST {
+        return false;
+    }
+    if HIGHEST <= from {
+        return false;
+    }
+    if to <= from {
+        return false;
+    }
+    to <= HIGHEST
+}
+
+// Whether all three axes may have these ends.
+fn good_ends(ends: [[i16; 2]; 3]) -> bool
+    ensures { λ r. ⌜ r ≡ goodEnds ends ⌝ }
+{
+    if !good_end(ends[0][0], ends[0][1]) {
+        return false;
+    }
+    if !good_end(ends[1][0], ends[1][1]) {
+        return false;
+    }
+    good_end(ends[2][0], ends[2][1])
+}
+
+// The numbers of the eight corners, in the order of a list.
+fn eight_corners(ends: [[i16; 2]; 3]) -> [i16; BOX_NUMBERS]
+    ensures { λ r. ⌜ r ≡ numbers (boxVertices ends) ⌝ }
+{
+    let a = ends[0][0];
+    let aa = ends[0][1];
+    let b = ends[1][0];
+    let bb = ends[1][1];
+    let d = ends[2][0];
+    let dd = ends[2][1];
+    [
+        a,
+        b,
+        d,
+        a,
+        b,
+        dd,
+        a,
+        bb,
+        d,
+        a,
+        bb,
+        dd,
+        aa,
+        b,
+        d,
+        aa,
+        b,
+        dd,
+        aa,
+        bb,
+        d,
+        aa,
+        bb,
+        dd,
+    ]
+}
+
+// Copies a list to the front of another; everything behind it stays.
+pub fn copy_front(list: &[i16], out: &mut [i16])
+    requires { ⌜ length (now list) ≤ length (now out) ⌝ }
+    ensures { λ r. ⌜ now (out .exit) ≡ now (list .entry) ++ drop (length (now (list .entry))) (now (out .entry)) ⌝ }
+{
+    let mut i = 0;
+    while i < list.len() {
+        out[i] = list[i];
+        i += 1;
+    }
+}
+
+// Makes the map of the box with these low and high ends on each axis.
+pub fn make_box(ends: [[i16; 2]; 3], out: &mut [i16]) -> Boxed
+    ensures { λ r. ⌜ BoxMade ends (now (out .entry)) r (now (out .exit)) ⌝ }
+{
+    if !good_ends(ends) {
+        return Boxed::BadEnds;
+    }
+    if out.len() < BOX_NUMBERS {
+        return Boxed::NoRoom;
+    }
+    let list = eight_corners(ends);
+    copy_front(&list, out);
+    Boxed::Done
+}

@@ -1,0 +1,318 @@
+-- Runs of numbers with one high part, and the sections between them.
+--   from-lt, from-at, from-take, from-lessBase      of rising lists
+--   section-none, section-up, section-down          a section grows by a run, and shrinks by it again
+--   section-short                                   a section is no longer than its list
+--   run-begins, run-goes-on, run-stops, run-ends    where a run ends
+--   turn-none, turn-void                            no cells below the first cut; none where the section is empty
+--   turn                                            the cells between two cuts with one run between them
+-- Assumes nothing.
+use mathlib.Core.Path.{_≡_, refl, sym, _∙_, ap, ap₂, subst}
+use mathlib.Core.Logic.{_⊎_, inl, inr}
+use mathlib.Core.Bool.{Bool, true, false, not, cond}
+use mathlib.Core.List.{List, [], _∷_, _++_, map}
+use Prim.Native.Nat.{ℕ, zero, suc, _+_, _-_, _*_, _/_, _%_, _^_, _≤_, _<_, min}
+use native.Mathlib.Omega.{arith}
+use native.Mathlib.Nat.{div-add-mod', div-mul-le-self, le-div-iff-mul-le, div-lt-iff-lt-mul, add-mul}
+use lib.Dec.{ltb, eqb}
+use mir.Syntax.{w32}
+use mir.Val.{Fits}
+use lib.ListN.{length, getD, take, drop, length-map, length-take}
+use lib.Seq.{take-at, take-add, getD-take, getD-drop, length-take-le}
+use borrow.Author.Tests.{lt-ltb, le-ltb, ltb-true, ltb-false}
+use Rattle.meaning.specs.Counting.{All}
+use Rattle.meaning.proofs.Parity.{_⊕_, ⊕-assoc, ⊕-self, ⊕-false, sum, sum-append, sum-map, sum-all}
+use Rattle.rising.specs.Merged.{From, merged, lessBase, plusBase}
+use Rattle.rising.proofs.Sums.{sum-merged, from-less, from-merged, no-longer}
+use Rattle.nearest.specs.Search.{Best, Least, Depth, Rank, Slab, Section, high, rest, highAt, Cut, Run}
+use Rattle.lists.proofs.Vertices.{all-by}
+use Rattle.nearest.proofs.Sweep.{slab-none, slab-void, slab-step}
+
+-- ---- rising lists, place by place
+
+pub from-low : (m : ℕ) (l : List ℕ) → From m l → (k : ℕ) → k < length l → m ≤ getD l k 0
+from-low m [] h k p = absurd (omega arith)
+from-low m (x ∷ l) h zero p = h .0
+from-low m (x ∷ l) h (suc k) p = omega (arith, h .0, from-low (suc x) l (h .1) k (omega arith))
+
+pub from-lt : (m : ℕ) (l : List ℕ) → From m l → (j k : ℕ) → j < k → k < length l → getD l j 0 < getD l k 0
+from-lt m [] h j k p q = absurd (omega arith)
+from-lt m (x ∷ l) h zero zero p q = absurd (omega arith)
+from-lt m (x ∷ l) h zero (suc k) p q = omega (arith, from-low (suc x) l (h .1) k (omega arith))
+from-lt m (x ∷ l) h (suc j) zero p q = absurd (omega arith)
+from-lt m (x ∷ l) h (suc j) (suc k) p q = from-lt (suc x) l (h .1) j k (omega arith) (omega arith)
+
+pub from-le : (m : ℕ) (l : List ℕ) → From m l → (j k : ℕ) → j ≤ k → k < length l → getD l j 0 ≤ getD l k 0
+from-le m l h j k p q = go (ltb j k) refl
+  where
+    go : (b : Bool) → ltb j k ≡ b → getD l j 0 ≤ getD l k 0
+    go true e = omega (arith, from-lt m l h j k (ltb-true j k e) q)
+    go false e = let s : j ≡ k = omega (arith, ltb-false j k e) in subst (λ (n : ℕ). getD l j 0 ≤ getD l n 0) s (omega arith)
+
+pub from-take : (m n : ℕ) (l : List ℕ) → From m l → From m (take n l)
+from-take m zero l h = tt
+from-take m (suc n) [] h = tt
+from-take m (suc n) (x ∷ l) h = (h .0, from-take (suc x) n l (h .1))
+
+pub from-drop : (m n : ℕ) (l : List ℕ) → From m l → From m (drop n l)
+from-drop m zero l h = h
+from-drop m (suc n) [] h = tt
+from-drop m (suc n) (x ∷ l) h = from-drop m n l (from-less m (suc x) l (omega (arith, h .0)) (h .1))
+
+pub from-lessBase : (base m : ℕ) (l : List ℕ) → base ≤ m → From m l → From (m - base) (lessBase base l)
+from-lessBase base m [] p h = tt
+from-lessBase base m (x ∷ l) p h =
+    (omega (arith, h .0), from-less (suc (x - base)) (suc x - base) (lessBase base l) (omega (arith, h .0)) (from-lessBase base (suc x) l (omega (arith, h .0)) (h .1)))
+
+-- the numbers of a part of a slice fit
+pub part-fits : (l : List ℕ) → ((i : ℕ) → Fits w32 (getD l i 0)) → (n : ℕ) → All (λ k. 0 + k < 2 ^ 32) (take n l)
+part-fits l h n = all-by (λ k. 0 + k < 2 ^ 32) 0 (take n l) (λ k p. omega (arith, h k, inside k p))
+  where
+    inside : (k : ℕ) → k < length (take n l) → getD (take n l) k 0 ≡ getD l k 0
+    inside k p = getD-take n l k 0 (omega (arith, length-take n l))
+
+-- what is merged into one slice and copied to the front of another stands there
+plus-none : (l : List ℕ) → plusBase 0 l ≡ l
+plus-none [] = refl
+plus-none (x ∷ l) = let s : 0 + x ≡ x = omega arith in ap₂ _∷_ s (plus-none l)
+
+pub copied : (w a b c d : List ℕ) (n : ℕ) → n ≡ length w → b ≡ w ++ a → d ≡ plusBase 0 (take n b) ++ c → take n d ≡ w
+copied w a b c d n e f g =
+    ap (take n) (g ∙ ap (_++ c) (plus-none (take n b) ∙ ap (take n) f ∙ take-at w a n (sym e))) ∙ take-at w c n (sym e)
+
+-- ---- sections
+
+pub section-none : (lo : ℕ → ℕ) (l : List ℕ) → Section lo (take 0 l) []
+section-none lo l = record { same = λ g. refl; rising = tt }
+
+-- what a section is of, said otherwise
+pub section-of : (lo : ℕ → ℕ) (l m s : List ℕ) → l ≡ m → Section lo l s → Section lo m s
+section-of lo l m s e h = subst (λ (x : List ℕ). Section lo x s) e h
+
+pub section-short : (lo : ℕ → ℕ) (l s : List ℕ) → Section lo l s → length s ≤ length l
+section-short lo l s h =
+    subst (λ (n : ℕ). length s ≤ n) (length-map l lo)
+    (no-longer 0 s (map lo l) (h .rising) (λ k. h .same (eqb k) ∙ sym (sum-map (eqb k) lo l)))
+
+module _ (lo : ℕ → ℕ) (l r s : List ℕ) (base : ℕ) (rises : From 0 (lessBase base r)) (same : (g : ℕ → Bool) → sum g (lessBase base r) ≡ sum (λ k. g (lo k)) r) where
+  pub section-up : Section lo l s → Section lo (l ++ r) (merged s (lessBase base r))
+  section-up h =
+      record {
+        same = λ g.
+            sum-merged g s (lessBase base r) ∙ ap₂ _⊕_ (h .same g) (same g) ∙ sym (sum-append (λ k. g (lo k)) l r);
+        rising = from-merged s (lessBase base r) 0 (h .rising) rises;
+      }
+
+  pub section-down : Section lo (l ++ r) s → Section lo l (merged s (lessBase base r))
+  section-down h =
+      record {
+        same = λ g.
+            sum-merged g s (lessBase base r) ∙
+            ap₂ _⊕_ (h .same g ∙ sum-append (λ k. g (lo k)) l r) (same g) ∙
+            ⊕-assoc (sum (λ k. g (lo k)) l) (sum (λ k. g (lo k)) r) (sum (λ k. g (lo k)) r) ∙
+            ap (sum (λ k. g (lo k)) l ⊕_) (⊕-self (sum (λ k. g (lo k)) r)) ∙
+            ⊕-false (sum (λ k. g (lo k)) l);
+        rising = from-merged s (lessBase base r) 0 (h .rising) rises;
+      }
+
+-- ---- the run from i to below e, less its base, is the rests of its numbers
+
+abbrev pub runOf : List ℕ → ℕ → ℕ → List ℕ
+runOf l i e = take (e - i) (drop i l)
+
+pub take-run : (l : List ℕ) (i e : ℕ) → i ≤ e → take i l ++ runOf l i e ≡ take e l
+take-run l i e h = let s : i + (e - i) ≡ e = omega arith in sym (take-add i (e - i) l) ∙ ap (λ n. take n l) s
+
+rests : (unit base : ℕ) (r : List ℕ) → ((k : ℕ) → k < length r → getD r k 0 - base ≡ rest unit (getD r k 0)) → (g : ℕ → Bool) → sum g (lessBase base r) ≡ sum (λ k. g (rest unit k)) r
+rests unit base [] h g = refl
+rests unit base (x ∷ r) h g = ap₂ _⊕_ (ap g (h 0 (omega arith))) (rests unit base r (λ k p. h (suc k) (omega arith)) g)
+
+pub length-run : (l : List ℕ) (i e : ℕ) → e ≤ length l → length (runOf l i e) ≡ e - i
+length-run l i e h = length-take-le (e - i) (drop i l) (omega (arith, lib.ListN.length-drop i l))
+
+run-at : (l : List ℕ) (i e k : ℕ) → k < e - i → getD (runOf l i e) k 0 ≡ getD l (i + k) 0
+run-at l i e k h = getD-take (e - i) (drop i l) k 0 h ∙ getD-drop i l k 0
+
+whole : (unit k : ℕ) → high unit k * unit + rest unit k ≡ k
+whole unit k = div-add-mod' k unit
+
+module _ (unit : ℕ) (l : List ℕ) (rises : From 0 l) (i e : ℕ) (run : Run (high unit) l i e) where
+  abbrev pub base : ℕ
+  base = high unit (getD l i 0) * unit
+
+  pub run-based : (k : ℕ) → k < e - i → base ≤ getD (runOf l i e) k 0
+  run-based k h =
+      let w = whole unit (getD l (i + k) 0) in
+      let s = ap (_* unit) (run .same (i + k) (omega arith) (omega arith)) in
+      omega (arith, w, s, run-at l i e k h)
+
+  run-rests : (k : ℕ) → k < length (runOf l i e) → getD (runOf l i e) k 0 - base ≡ rest unit (getD (runOf l i e) k 0)
+  run-rests k p =
+      let h : k < e - i = omega (arith, length-run l i e (run .within)) in
+      let w = whole unit (getD l (i + k) 0) in
+      let s = ap (_* unit) (run .same (i + k) (omega arith) (omega arith)) in
+      let a = run-at l i e k h in
+      omega (arith, w, s, a, ap (rest unit) a)
+
+  run-rising : From 0 (lessBase base (runOf l i e))
+  run-rising =
+      subst (λ (n : ℕ). From n (lessBase base (runOf l i e))) (zeroed (runOf l i e)) (from-lessBase base base (runOf l i e) (omega arith) above)
+    where
+      zeroed : (r : List ℕ) → base - base ≡ 0
+      zeroed r = omega arith
+
+      low : (m : ℕ) (r : List ℕ) → From m r → ((k : ℕ) → k < length r → base ≤ getD r k 0) → From base r
+      low m [] h k = tt
+      low m (x ∷ r) h k = (k 0 (omega arith), h .1)
+
+      above : From base (runOf l i e)
+      above = low 0 (runOf l i e) (from-take 0 (e - i) (drop i l) (from-drop 0 i l rises)) (λ k p. run-based k (omega (arith, length-run l i e (run .within))))
+
+  pub run-up : (s : List ℕ) → Section (rest unit) (take i l) s → Section (rest unit) (take e l) (merged s (lessBase base (runOf l i e)))
+  run-up s h =
+      section-of (rest unit) _ _ _ (take-run l i e (omega (arith, run .some)))
+      (section-up (rest unit) (take i l) (runOf l i e) s base run-rising (rests unit base (runOf l i e) run-rests) h)
+
+  pub run-down : (s : List ℕ) → Section (rest unit) (take e l) s → Section (rest unit) (take i l) (merged s (lessBase base (runOf l i e)))
+  run-down s h =
+      section-down (rest unit) (take i l) (runOf l i e) s base run-rising (rests unit base (runOf l i e) run-rests)
+      (section-of (rest unit) _ _ _ (sym (take-run l i e (omega (arith, run .some)))) h)
+
+  -- a section on either side of the run, and what crossing it makes, are no longer than the list
+  pub cross-fits : (s : List ℕ) → Section (rest unit) (take i l) s ⊎ Section (rest unit) (take e l) s → (length s ≤ length l) × (length (merged s (lessBase base (runOf l i e))) ≤ length l)
+  cross-fits s (inl h) =
+      let a = length-take-le i l (omega (arith, run .some, run .within)) in
+      let b = length-take-le e l (run .within) in
+      (omega (arith, section-short (rest unit) (take i l) s h, run .some, run .within), omega (arith, section-short (rest unit) (take e l) _ (run-up s h), run .within))
+  cross-fits s (inr h) =
+      let a = length-take-le i l (omega (arith, run .some, run .within)) in
+      let b = length-take-le e l (run .within) in
+      (omega (arith, section-short (rest unit) (take e l) s h, run .some, run .within), omega (arith, section-short (rest unit) (take i l) _ (run-down s h), run .some, run .within))
+
+  pub cross-based : All (λ k. base ≤ k) (runOf l i e)
+  cross-based = all-by (λ k. base ≤ k) 0 (runOf l i e) (λ k p. run-based k (omega (arith, length-run l i e (run .within))))
+
+-- high parts of a rising list rise
+pub high-mono : (unit : ℕ) → 0 < unit → (l : List ℕ) → From 0 l → (j k : ℕ) → j ≤ k → k < length l → high unit (getD l j 0) ≤ high unit (getD l k 0)
+high-mono unit u l h j k p q =
+    le-div-iff-mul-le u .1 (omega (arith, div-mul-le-self (getD l j 0) unit, from-le 0 l h j k p q))
+
+-- ---- where a run ends
+
+module _ (unit : ℕ) (u : 0 < unit) (y z : ℕ) where
+  same-high : y ≤ z → z - high unit y * unit < unit → high unit z ≡ high unit y
+  same-high h k =
+      let a : high unit y ≤ high unit z = le-div-iff-mul-le u .1 (omega (arith, div-mul-le-self y unit)) in
+      let b : high unit z < high unit y + 1 = div-lt-iff-lt-mul u .1 (omega (arith, add-mul (high unit y) 1 unit)) in
+      omega arith
+
+  next-high : unit ≤ z - high unit y * unit → high unit y < high unit z
+  next-high h =
+      let a : high unit y + 1 ≤ high unit z = le-div-iff-mul-le u .1 (omega (arith, add-mul (high unit y) 1 unit)) in
+      omega arith
+
+module _ (unit : ℕ) (u : 0 < unit) (l : List ℕ) (rises : From 0 l) (i : ℕ) where
+  pub run-begins : i < length l → Run (high unit) l i (i + 1)
+  run-begins h =
+      record { some = omega arith; within = omega arith; same = λ k p q. let s : k ≡ i = omega arith in ap (λ n. high unit (getD l n 0)) s }
+
+  module _ (e : ℕ) (run : Run (high unit) l i e) where
+    pub run-over : e < length l → getD l i 0 / unit * unit ≤ getD l e 0
+    run-over h = omega (arith, div-mul-le-self (getD l i 0) unit, from-le 0 l rises i e (omega (arith, run .some)) h)
+
+    pub run-goes-on : e < length l → getD l e 0 - getD l i 0 / unit * unit < unit → Run (high unit) l i (e + 1)
+    run-goes-on h k =
+        record {
+          some = omega (arith, run .some);
+          within = omega arith;
+          same = λ n p q. go n p q (ltb n e) refl;
+        }
+      where
+        last : high unit (getD l e 0) ≡ high unit (getD l i 0)
+        last = same-high unit u (getD l i 0) (getD l e 0) (from-le 0 l rises i e (omega (arith, run .some)) h) k
+
+        go : (n : ℕ) → i ≤ n → n < e + 1 → (b : Bool) → ltb n e ≡ b → high unit (getD l n 0) ≡ high unit (getD l i 0)
+        go n p q true t = run .same n p (ltb-true n e t)
+        go n p q false t = let s : n ≡ e = omega (arith, ltb-false n e t) in ap (λ m. high unit (getD l m 0)) s ∙ last
+
+    pub run-stops : e < length l → unit ≤ getD l e 0 - getD l i 0 / unit * unit → Cut (high unit) l e
+    run-stops h k =
+        record {
+          within = omega arith;
+          apart = λ j n p q r.
+              let a = high-mono unit u l rises j (e - 1) (omega arith) (omega arith) in
+              let b = run .same (e - 1) (omega (arith, run .some)) (omega (arith, run .some)) in
+              let c = high-mono unit u l rises e n q r in
+              omega (arith, next-high unit u (getD l i 0) (getD l e 0) k);
+        }
+
+    pub run-ends : length l ≤ e → Cut (high unit) l e
+    run-ends h = record { within = run .within; apart = λ j n p q r. absurd (omega arith) }
+
+-- ---- the high part at a place
+
+pub high-in : (hi : ℕ → ℕ) (l : List ℕ) (i : ℕ) → i < length l → highAt hi l i ≡ min (hi (getD l i 0)) 1024
+high-in hi l i h = ap (λ b. cond b (min (hi (getD l i 0)) 1024) 1024) (lt-ltb i (length l) h)
+
+pub high-out : (hi : ℕ → ℕ) (l : List ℕ) (i : ℕ) → length l ≤ i → highAt hi l i ≡ 1024
+high-out hi l i h = ap (λ b. cond b (min (hi (getD l i 0)) 1024) 1024) (le-ltb i (length l) h)
+
+pub high-end : (hi : ℕ → ℕ) (l : List ℕ) (i : ℕ) → highAt hi l i ≤ 1024
+high-end hi l i = go (ltb i (length l)) refl
+  where
+    go : (b : Bool) → ltb i (length l) ≡ b → highAt hi l i ≤ 1024
+    go true e = omega (arith, high-in hi l i (ltb-true i (length l) e))
+    go false e = omega (arith, high-out hi l i (ltb-false i (length l) e))
+
+module _ (hi lo v : ℕ → ℕ) (D : Depth) (l : List ℕ) (base : ℕ) (mono : (j k : ℕ) → j ≤ k → k < length l → hi (getD l j 0) ≤ hi (getD l k 0)) where
+  behind : (e j : ℕ) → e ≤ j → j < length l → highAt hi l e ≤ hi (getD l j 0)
+  behind e j p q = omega (arith, high-in hi l e (omega arith), mono e j p q)
+
+  -- below the first high part there are no cells
+  pub turn-none : (m : ℕ) → Best (Slab hi lo v D l 0 (highAt hi l 0) base) m m
+  turn-none m =
+      slab-void hi lo v D l base 0 0 (highAt hi l 0) (λ j p q. absurd (omega arith)) (behind 0) [] (section-none lo l) refl m
+
+  -- nor from a place to the next, where the section is empty
+  pub turn-void : (i : ℕ) → Section lo (take (i + 1) l) [] → (m : ℕ) → Best (Slab hi lo v D l (highAt hi l i) (highAt hi l (i + 1)) base) m m
+  turn-void i h m = go (ltb i (length l)) refl (ltb (hi (getD l i 0)) 1024) refl
+    where
+      go : (b : Bool) → ltb i (length l) ≡ b → (d : Bool) → ltb (hi (getD l i 0)) 1024 ≡ d → Best (Slab hi lo v D l (highAt hi l i) (highAt hi l (i + 1)) base) m m
+      go false e d f = slab-none hi lo v D l base (highAt hi l i) (highAt hi l (i + 1)) m (omega (arith, high-out hi l i (ltb-false i (length l) e), high-end hi l (i + 1)))
+      go true e false f =
+          slab-none hi lo v D l base (highAt hi l i) (highAt hi l (i + 1)) m
+          (omega (arith, high-in hi l i (ltb-true i (length l) e), ltb-false (hi (getD l i 0)) 1024 f, high-end hi l (i + 1)))
+      go true e true f =
+          let low = ltb-true (hi (getD l i 0)) 1024 f in
+          let h′ = ltb-true i (length l) e in
+          slab-void hi lo v D l base (i + 1) (highAt hi l i) (highAt hi l (i + 1))
+          (λ j p q. omega (arith, high-in hi l i h′, mono j i (omega arith) h′))
+          (behind (i + 1)) [] h refl m
+
+module _ (hi lo v : ℕ → ℕ) (D : Depth) (l : List ℕ) (base : ℕ)
+    (mono : (j k : ℕ) → j ≤ k → k < length l → hi (getD l j 0) ≤ hi (getD l k 0))
+    (i e : ℕ) (before : Cut hi l i) (after : Cut hi l e) (run : Run hi l i e) (low : hi (getD l i 0) < 1024)
+  where
+    turn-low : highAt hi l i ≡ hi (getD l i 0)
+    turn-low = high-in hi l i (omega (arith, run .some, run .within)) ∙ omega arith
+
+    pub turn-high : highAt hi l i < highAt hi l e
+    turn-high = go (ltb e (length l)) refl
+      where
+        go : (b : Bool) → ltb e (length l) ≡ b → highAt hi l i < highAt hi l e
+        go true t =
+            let h = ltb-true e (length l) t in
+            omega (arith, turn-low, high-in hi l e h, after .apart i e (run .some) (omega arith) h)
+        go false t = omega (arith, turn-low, high-out hi l e (ltb-false e (length l) t))
+
+    upto : (j : ℕ) → j < e → j < length l → hi (getD l j 0) ≤ highAt hi l i
+    upto j p q = go (ltb j i) refl
+      where
+        go : (b : Bool) → ltb j i ≡ b → hi (getD l j 0) ≤ highAt hi l i
+        go true t = omega (arith, turn-low, before .apart j i (ltb-true j i t) (omega arith) (omega (arith, run .some, run .within)))
+        go false t = omega (arith, turn-low, run .same j (ltb-false j i t) p)
+
+    from : (j : ℕ) → e ≤ j → j < length l → highAt hi l e ≤ hi (getD l j 0)
+    from j p q = omega (arith, high-in hi l e (omega arith), mono e j p q)
+
+    pub turn : (s : List ℕ) → Section lo (take e l) s → (p m r : ℕ) → Least v (highAt hi l i) (highAt hi l e) p → Best (Rank D s (base + p)) m r → Best (Slab hi lo v D l (highAt hi l i) (highAt hi l e) base) m r
+    turn s h = slab-step hi lo v D l base e (highAt hi l i) (highAt hi l e) upto from s h

@@ -1,0 +1,24 @@
+-- `values::near` meets its contract: below the stretch its first code, above it its last, else the wish itself.
+use borrow.Author.Needs.{needs}
+use Rattle.nearest.proofs.Costs.{near-last}
+use Rattle.nearest.proofs.values.near.Statement.{statement}
+use Rattle.nearest.proofs.values.near.Tie as tie
+
+-- src/values.rt:31:9
+returns : tie.Need-returns
+returns c = search needs
+
+-- src/values.rt:34:16
+sub-result : tie.Need-sub-result
+sub-result c = search needs
+
+-- src/values.rt:34:9
+returns-2 : tie.Need-returns-2
+returns-2 c = near-last _ _ _ (c .before .before .pre) (c .if2 .taken)
+
+-- src/values.rt:26:1
+returns-3 : tie.Need-returns-3
+returns-3 c = search needs
+
+pub near-spec : {M : Type 1} → statement M
+near-spec = tie.close (tie.spec returns sub-result returns-2 returns-3)

@@ -1,0 +1,154 @@
+// The nearest permitted cell to a wish (document 01, demand 3). It relies on `lists` for the check, on `keys` for the keys of a list and on
+// `rising` for the merge of rising lists; its own search stands in search.rt.
+ghost use mathlib.Core.Path.{_≡_};
+ghost use Prim.Native.Nat.{_+_, _/_, _%_, _<_, _≤_, _^_};
+ghost use lib.ListN.{length};
+ghost use Rattle.meaning.specs.Numbers.{cell, number};
+ghost use Rattle.meaning.specs.Lists.{vertices, Valid, mostVertices};
+ghost use Rattle.codes.specs.Lift.{lowered};
+ghost use Rattle.nearest.specs.Answer.{Answered};
+ghost use Rattle.nearest.specs.Search.{Ranked};
+use meaning::MOST_VERTICES;
+use meaning::Verdict;
+use search::END;
+use values::DISTANCE;
+
+mod search;
+mod values;
+
+// What one code of focus counts as distance, and one of either shift: `weight` of the distance's definition.
+const FOCUS_WEIGHT: u64 = 1;
+
+const SHIFT_WEIGHT: u64 = 1;
+
+// What one code counts among cells at the same distance: lowest focus, then first shift, then second.
+const FOCUS_PLACE: u64 = 1048576;
+
+const FIRST_PLACE: u64 = 1024;
+
+const SECOND_PLACE: u64 = 1;
+
+// A rank above that of every cell.
+const NONE: u64 = 1152921504606846976;
+
+// The numbers of a vertex.
+const NUMBERS: usize = 3;
+
+// The most vertices for which the working arrays are small ones, and twice as many.
+const SMALL: usize = 32;
+
+const TWICE_SMALL: usize = 64;
+
+const TWICE_MOST: usize = 2 * MOST_VERTICES;
+
+// What nearest answers.
+pub enum Found {
+    // The nearest cell by its codes, and its distance.
+    At(i16, i16, i16, u32),
+    // The list is empty: there is no cell.
+    Empty,
+    // The list is not valid, and why.
+    Refused(Verdict),
+}
+
+// The least rank of the cells that a list permits, for a wish that is given by its steps above -32768; the slices are room to work in.
+fn rank_with_room(
+    list: &[i16],
+    focus: u32,
+    first: u32,
+    second: u32,
+    keys: &mut [u32],
+    room: &mut [u32],
+    line: &mut [u32],
+    other: &mut [u32],
+) -> u64
+    requires { ⌜ Valid (vertices (now list)) × (0 < length (vertices (now list))) ⌝ }
+    requires { ⌜ (focus < 65536) × (first < 65536) × (second < 65536) ⌝ }
+    requires { ⌜ (length (vertices (now list)) ≤ length (now keys)) × (length (vertices (now list)) ≤ length (now room)) × (length (vertices (now list)) ≤ length (now line)) × (length (vertices (now list)) + length (vertices (now list)) ≤ length (now other)) ⌝ }
+    ensures { λ r. ⌜ Ranked (now (list .entry)) (cell (lowered focus) (lowered first) (lowered second)) r × (r < 2 ^ 62) ⌝ }
+{
+    let n = keys::read(list, keys);
+    let a = values::bring(focus, 0, END, FOCUS_WEIGHT, FOCUS_PLACE);
+    let b = values::bring(first, 0, END, SHIFT_WEIGHT, FIRST_PLACE);
+    let d = values::bring(second, 0, END, SHIFT_WEIGHT, SECOND_PLACE);
+    let rank = search::planes(&keys[..n], a, b, d, NONE, room, line, other);
+    let beyond = values::beyond(focus, a) + values::beyond(first, b) + values::beyond(second, d);
+    rank + beyond * DISTANCE
+}
+
+// The same with room of its own for few vertices.
+fn rank_of_few(list: &[i16], focus: u32, first: u32, second: u32) -> u64
+    requires { ⌜ Valid (vertices (now list)) × (0 < length (vertices (now list))) ⌝ }
+    requires { ⌜ (focus < 65536) × (first < 65536) × (second < 65536) ⌝ }
+    requires { ⌜ length (vertices (now list)) ≤ 32 ⌝ }
+    ensures { λ r. ⌜ Ranked (now (list .entry)) (cell (lowered focus) (lowered first) (lowered second)) r × (r < 2 ^ 62) ⌝ }
+{
+    let mut keys = [0u32; SMALL];
+    let mut room = [0u32; SMALL];
+    let mut line = [0u32; SMALL];
+    let mut other = [0u32; TWICE_SMALL];
+    rank_with_room(
+        list,
+        focus,
+        first,
+        second,
+        &mut keys,
+        &mut room,
+        &mut line,
+        &mut other,
+    )
+}
+
+// The same with room of its own for as many vertices as a list may have.
+fn rank_of_many(list: &[i16], focus: u32, first: u32, second: u32) -> u64
+    requires { ⌜ Valid (vertices (now list)) × (0 < length (vertices (now list))) ⌝ }
+    requires { ⌜ (focus < 65536) × (first < 65536) × (second < 65536) ⌝ }
+    ensures { λ r. ⌜ Ranked (now (list .entry)) (cell (lowered focus) (lowered first) (lowered second)) r × (r < 2 ^ 62) ⌝ }
+{
+    let mut keys = [0u32; MOST_VERTICES];
+    let mut room = [0u32; MOST_VERTICES];
+    let mut line = [0u32; MOST_VERTICES];
+    let mut other = [0u32; TWICE_MOST];
+    rank_with_room(
+        list,
+        focus,
+        first,
+        second,
+        &mut keys,
+        &mut room,
+        &mut line,
+        &mut other,
+    )
+}
+
+// The cell and the distance of a rank.
+fn answer(rank: u64) -> Found
+    requires { ⌜ rank < 2 ^ 62 ⌝ }
+    ensures { λ r. ⌜ r ≡ Found.At (number (rank / 1048576 % 1024)) (number (rank / 1024 % 1024)) (number (rank % 1024)) (rank / 1073741824) ⌝ }
+{
+    let codes = END as u64;
+    let focus = keys::number_of((rank / FOCUS_PLACE % codes) as u32);
+    let first = keys::number_of((rank / FIRST_PLACE % codes) as u32);
+    let second = keys::number_of((rank % codes) as u32);
+    Found::At(focus, first, second, (rank / DISTANCE) as u32)
+}
+
+// The permitted cell nearest to a wish, with its distance: of several the one with the lowest focus, then first shift, then second.
+pub fn nearest(list: &[i16], focus: i16, first: i16, second: i16) -> Found
+    ensures { λ r. ⌜ Answered (now (list .entry)) (cell focus first second) r ⌝ }
+{
+    let verdict = lists::check(list);
+    let Verdict::Valid = verdict else {
+        return Found::Refused(verdict);
+    };
+    if list.len() == 0 {
+        return Found::Empty;
+    }
+    let a = codes::lift(focus) as u32;
+    let b = codes::lift(first) as u32;
+    let d = codes::lift(second) as u32;
+    if list.len() <= NUMBERS * SMALL {
+        return answer(rank_of_few(list, a, b, d));
+    }
+    answer(rank_of_many(list, a, b, d))
+}

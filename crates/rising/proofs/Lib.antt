@@ -1,0 +1,4 @@
+-- Laws of rising lists, and of loops that fill a lent slice.
+pub mod Written
+pub mod Merging
+pub mod Sums

@@ -1,0 +1,185 @@
+-- Laws of the packing.
+--   Fields, unpacked                         the values come back by division, as include/travelmap.h takes them
+--   place-few                                the place of a verdict is that of a vertex of a list that is not too long
+--   verdict-done, verdict-refused, verdict-room    a packed verdict: 0 for a valid list; it leaves room for the lower half
+--   cell-place, corner-place, corner-eight, ends-few    bounds on what the queries answer
+--   part-empty, part-some                    the packed part
+--   back-one, back-three, box-packed         a signed number that is passed on comes back from its bits
+--   check-settled, cell-settled, corner-settled, plane-settled, box-settled    any two outcomes that a promise allows are equal
+use mathlib.Core.Path.{_≡_, refl, sym, _∙_, ap, subst}
+use mathlib.Core.Bool.{Bool, true, false, cond}
+use mathlib.Core.List.{List}
+use Prim.Native.Nat.{ℕ, _+_, _*_, _-_, _/_, _%_, _^_, _≤_, _<_}
+use native.Mathlib.Omega.{arith}
+use borrow.Author.Tests.{ltb-true, ltb-false, eq-eqb, ne-eqb}
+use lib.Dec.{ltb, eqb}
+use lib.IntN.{ℤ}
+use lib.ListN.{length}
+use mir.Syntax.{w16}
+use mir.Val.{SFits, toZ, ofZ}
+use mir.ValLaws.{toZ-ofZ}
+use Rattle.meaning.specs.Numbers.{Cell, Corner}
+use Rattle.meaning.specs.Counting.{count, first}
+use Rattle.meaning.specs.Lists.{vertices, permitted, surrounding, howMany, mostVertices}
+use Rattle.meaning.specs.Verdicts.{outsideAt, fallsAt, onOddLineAt, unlessAt, verdictOf, verdict, refusalNumber, refusalPlace}
+use Rattle.meaning.specs.declared.Verdict.{Verdict}
+use Rattle.meaning.specs.declared.Verdict.the-variants.{Valid, NotTriples, TooMany, OutOfRange, NotRising, OddLine}
+use Rattle.lists.specs.Box.{valuesOf, boxValues, boxContents, BoxMade}
+use Rattle.lists.specs.declared.Boxed.{Boxed}
+use Rattle.asks.specs.Asks.{passes, cellValues, CellPromise, CornerPromise, EndsPromise, throughPlane}
+use Rattle.asks.specs.declared.CellAnswer.{CellAnswer}
+use Rattle.asks.specs.declared.CornerAnswer.{CornerAnswer}
+use Rattle.asks.specs.declared.Ends.{Ends}
+use Rattle.asks.proofs.Planes.{count-le}
+use Rattle.asks.proofs.Answers.{passes-map, ends-within}
+use Rattle.travelmap.specs.Packed.{packed, packedRefusal, packedVerdict, packedPart, packedValues, threeAxes, CheckPacked, CellPacked, CornerPacked, PlanePacked, BoxPacked}
+
+-- ---- back again
+
+-- what x unpacks to
+pub record Fields (x number operand place second count : ℕ) : Type 0 where
+  pub number-at : x / 2 ^ 56 ≡ number
+  pub operand-at : x / 2 ^ 48 % 2 ^ 8 ≡ operand
+  pub place-at : x / 2 ^ 32 % 2 ^ 16 ≡ place
+  pub second-at : x / 2 ^ 16 % 2 ^ 16 ≡ second
+  pub count-at : x % 2 ^ 16 ≡ count
+
+pub unpacked : (n o p s c : ℕ) → o < 2 ^ 8 → p < 2 ^ 16 → s < 2 ^ 16 → c < 2 ^ 16 → Fields (packed n o p s c) n o p s c
+unpacked n o p s c ho hp hs hc =
+    record {
+      number-at = omega arith;
+      operand-at = omega arith;
+      place-at = omega arith;
+      second-at = omega arith;
+      count-at = omega arith;
+    }
+
+-- ---- the verdict
+
+unless-few : (p : ℕ → Bool) (n : ℕ) (refusal : ℕ → Verdict) (next : Verdict) → ((i : ℕ) → refusalPlace (refusal i) ≡ i)
+    → refusalPlace next ≤ n → refusalPlace (unlessAt p n refusal next) ≤ n
+unless-few p n refusal next at h = go (ltb (first p n) n) refl
+  where
+    go : (t : Bool) → ltb (first p n) n ≡ t → refusalPlace (cond t (refusal (first p n)) next) ≤ n
+    go true e = omega (arith, at (first p n), ltb-true (first p n) n e)
+    go false e = h
+
+pub place-few : (ns : List ℤ) → refusalPlace (verdict ns) ≤ mostVertices
+unfolding verdict
+place-few ns = triples (eqb (length ns % 3) 0)
+  where
+    n : ℕ
+    n = length (vertices ns)
+
+    few : (t : Bool) → ltb mostVertices n ≡ t → refusalPlace (cond t TooMany (verdictOf (vertices ns))) ≤ mostVertices
+    few true e = omega arith
+    few false e =
+        let l = vertices ns in
+        let r : refusalPlace (verdictOf l) ≤ length l =
+        unless-few (outsideAt l) (length l) OutOfRange _ (λ i. refl)
+        (unless-few (fallsAt l) (length l) NotRising _ (λ i. refl) (unless-few (onOddLineAt l) (length l) OddLine Valid (λ i. refl) (omega arith))) in
+        omega (arith, r, ltb-false mostVertices n e)
+
+    triples : (t : Bool) → refusalPlace (cond t (cond (ltb mostVertices n) TooMany (verdictOf (vertices ns))) NotTriples) ≤ mostVertices
+    triples true = few (ltb mostVertices n) refl
+    triples false = omega arith
+
+-- number 0 is that of a valid list alone
+pub verdict-done : (v : Verdict) (n : ℕ) → n ≡ refusalNumber v → n ≡ 0 → 0 ≡ packedVerdict v
+verdict-done Valid n e z = refl
+verdict-done NotTriples n e z = absurd (omega arith)
+verdict-done TooMany n e z = absurd (omega arith)
+verdict-done (OutOfRange i) n e z = absurd (omega arith)
+verdict-done (NotRising i) n e z = absurd (omega arith)
+verdict-done (OddLine i) n e z = absurd (omega arith)
+
+pub verdict-refused : (v : Verdict) (n : ℕ) → n ≡ refusalNumber v → (n ≡ 0 → ⊥) → packedRefusal 1 v ≡ packedVerdict v
+verdict-refused Valid n e z = absurd (z e)
+verdict-refused NotTriples n e z = refl
+verdict-refused TooMany n e z = refl
+verdict-refused (OutOfRange i) n e z = refl
+verdict-refused (NotRising i) n e z = refl
+verdict-refused (OddLine i) n e z = refl
+
+-- a packed refusal leaves room for what stands in the lower half
+pub verdict-room : (v : Verdict) → refusalPlace v ≤ mostVertices → packedVerdict v + 2 ^ 32 < 2 ^ 64
+unfolding mostVertices
+verdict-room Valid h = omega arith
+verdict-room NotTriples h = omega arith
+verdict-room TooMany h = omega arith
+verdict-room (OutOfRange i) h = omega arith
+verdict-room (NotRising i) h = omega arith
+verdict-room (OddLine i) h = omega arith
+
+-- ---- the cell query, the corner report, the plane query
+
+module _ (ns : List ℤ) where
+  pub cell-place : (c : Cell) (r : CellAnswer) → CellPromise ns c r → cellValues r .place ≤ mostVertices
+  cell-place c r h = subst (λ (n : ℕ). n ≤ mostVertices) (sym (ap (λ q. q .place) (h .values))) (place-few ns)
+
+  module _ (v : Corner) (r : CornerAnswer) (h : CornerPromise ns v r) where
+    pub corner-place : refusalPlace (r .verdict) ≤ mostVertices
+    corner-place = subst (λ (n : ℕ). n ≤ mostVertices) (sym (ap (λ q. refusalPlace (q .verdict)) (h .answer))) (place-few ns)
+
+    -- there are eight cells round a corner
+    pub corner-eight : r .«how_many» ≤ 8
+    corner-eight = subst (λ (n : ℕ). n ≤ 8) (sym (ap (λ q. q .«how_many») (h .answer))) (go (passes (verdict ns)))
+      where
+        go : (t : Bool) → cond t (howMany (permitted (vertices ns)) v) 0 ≤ 8
+        go true = count-le (permitted (vertices ns)) (surrounding v)
+        go false = omega arith
+
+  pub ends-few : (x : ℤ) (r : Ends) → EndsPromise ns x r → (r .start ≤ r .end) × (r .end ≤ 3 * mostVertices)
+  ends-few x r h =
+      (ends-within ns x r h .0, subst (λ (n : ℕ). n ≤ 3 * mostVertices) (sym (ap (λ q. q .end) (h .answer))) (go (passes (verdict ns)) refl))
+    where
+      go : (t : Bool) → passes (verdict ns) ≡ t → cond t (3 * count (throughPlane x) (vertices ns)) 0 ≤ 3 * mostVertices
+      go true e = omega (arith, count-le (throughPlane x) (vertices ns), passes-map ns e .few)
+      go false e = omega arith
+
+pub part-empty : (r : Ends) → r .start ≡ r .end → 0 ≡ packedPart r
+part-empty r e = sym (ap (λ t. cond t 0 (r .start * 2 ^ 32 + (r .end - r .start))) (eq-eqb (r .start) (r .end) e))
+
+pub part-some : (r : Ends) → (r .start ≡ r .end → ⊥) → r .start * 2 ^ 32 + (r .end - r .start) ≡ packedPart r
+part-some r e = sym (ap (λ t. cond t 0 (r .start * 2 ^ 32 + (r .end - r .start))) (ne-eqb (r .start) (r .end) e))
+
+-- ---- a signed number that is passed on comes back from its bits
+
+abbrev back : ℤ → ℤ
+back z = toZ w16 (ofZ w16 z)
+
+pub back-one : {A : Type 0} (f : ℤ → A) (z : ℤ) → SFits w16 z → f (back z) ≡ f z
+back-one f z h = ap f (toZ-ofZ w16 z h)
+
+pub back-three : {A : Type 0} (f : ℤ → ℤ → ℤ → A) (x y z : ℤ) → SFits w16 x → SFits w16 y → SFits w16 z → f (back x) (back y) (back z) ≡ f x y z
+back-three f x y z p q r i = f (toZ-ofZ w16 x p i) (toZ-ofZ w16 y q i) (toZ-ofZ w16 z r i)
+
+-- the six ends of a box
+module _ (a a′ b b′ d d′ : ℤ) (p : SFits w16 a) (p′ : SFits w16 a′) (q : SFits w16 b) (q′ : SFits w16 b′) (s : SFits w16 d) (s′ : SFits w16 d′) where
+  back-ends : threeAxes (back a) (back a′) (back b) (back b′) (back d) (back d′) ≡ threeAxes a a′ b b′ d d′
+  back-ends i = threeAxes (toZ-ofZ w16 a p i) (toZ-ofZ w16 a′ p′ i) (toZ-ofZ w16 b q i) (toZ-ofZ w16 b′ q′ i) (toZ-ofZ w16 d s i) (toZ-ofZ w16 d′ s′ i)
+
+  pub box-packed : (out after : List ℤ) (made : Boxed) (r : ℕ) → BoxMade (threeAxes (back a) (back a′) (back b) (back b′) (back d) (back d′)) out made after
+      → r ≡ packedValues (valuesOf made) → BoxPacked (threeAxes a a′ b b′ d d′) out r after
+  unfolding BoxMade BoxPacked
+  box-packed out after made r m e =
+      subst (λ ends. (r ≡ packedValues (boxValues ends (length out))) × (after ≡ boxContents ends out)) back-ends (e ∙ ap packedValues (m .0), m .1)
+
+-- ---- each promise settles its answer, and the contents at exit
+
+pub check-settled : (ns : List ℤ) (r s : ℕ) → CheckPacked ns r → CheckPacked ns s → r ≡ s
+check-settled ns r s p q = p ∙ sym q
+
+pub cell-settled : (ns : List ℤ) (c : Cell) (r s : ℕ) → CellPacked ns c r → CellPacked ns c s → r ≡ s
+cell-settled ns c r s p q = p ∙ sym q
+
+pub corner-settled : (ns : List ℤ) (v : Corner) (r s : ℕ) → CornerPacked ns v r → CornerPacked ns v s → r ≡ s
+corner-settled ns v r s p q = p ∙ sym q
+
+pub plane-settled : (ns : List ℤ) (x : ℤ) (r s : ℕ) → PlanePacked ns x r → PlanePacked ns x s → r ≡ s
+plane-settled ns x r s p q = p ∙ sym q
+
+pub box-settled : (ends : List (List ℤ)) (before : List ℤ) (r s : ℕ) (after last : List ℤ) → BoxPacked ends before r after → BoxPacked ends before s last
+    → (r ≡ s) × (after ≡ last)
+unfolding BoxPacked
+box-settled ends before r s after last p q = (p .0 ∙ sym (q .0), p .1 ∙ sym (q .1))

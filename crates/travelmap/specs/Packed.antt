@@ -1,0 +1,65 @@
+-- How an answer is packed into one number, and what each function for C and Rust promises (document 01, "Why a call comes back").
+--   packed                            number in bits 56 to 63, operand 48 to 55, place 32 to 47, second count 16 to 31, count 0 to 15
+--   packedRefusal, packedVerdict, CheckPacked    the verdict on a list; what the check promises
+--   packedCell, CellPacked            the cell query: the values of its answer, and 1 as the count for yes
+--   packedCorner, CornerPacked        the corner report: mask in bits 0 to 7, how many in 8 to 15, kind in 16 to 23, beside the list's refusal
+--   packedPart, PlanePacked           the plane query: where the part starts in bits 32 to 63, its length in bits 0 to 31; 0 where it is empty
+--   threeAxes, packedValues, BoxPacked    the box: the values of its answer, and the contents at exit
+use mathlib.Core.Path.{_≡_}
+use mathlib.Core.Bool.{cond}
+use mathlib.Core.List.{List, [], _∷_}
+use Prim.Native.Nat.{ℕ, _+_, _*_, _-_, _^_}
+use lib.Dec.{eqb}
+use lib.IntN.{ℤ}
+use lib.ListN.{length}
+use Rattle.meaning.specs.Numbers.{Cell, Corner}
+use Rattle.meaning.specs.Verdicts.{verdict, refusalNumber, refusalPlace}
+use Rattle.meaning.specs.declared.Verdict.{Verdict}
+use Rattle.lists.specs.Box.{Values, boxValues, boxContents}
+use Rattle.asks.specs.Asks.{passes, cellValues, cellAnswer, cornerAnswer, planeEnds}
+use Rattle.asks.specs.declared.CellAnswer.{CellAnswer}
+use Rattle.asks.specs.declared.CornerAnswer.{CornerAnswer}
+use Rattle.asks.specs.declared.Ends.{Ends}
+
+abbrev pub packed : ℕ → ℕ → ℕ → ℕ → ℕ → ℕ
+packed number operand place second count = number * 2 ^ 56 + operand * 2 ^ 48 + place * 2 ^ 32 + second * 2 ^ 16 + count
+
+-- the refusal of the list that is this operand
+abbrev pub packedRefusal : ℕ → Verdict → ℕ
+packedRefusal operand v = packed (refusalNumber v) operand (refusalPlace v) 0 0
+
+-- where there is one list: 0 for a valid one
+abbrev pub packedVerdict : Verdict → ℕ
+packedVerdict v = cond (passes v) 0 (packedRefusal 1 v)
+
+abbrev pub CheckPacked : List ℤ → ℕ → Type 0
+CheckPacked ns r = r ≡ packedVerdict (verdict ns)
+
+abbrev pub packedCell : CellAnswer → ℕ
+packedCell a = packed (cellValues a .number) (cellValues a .operand) (cellValues a .place) 0 (cond (cellValues a .yes) 1 0)
+
+abbrev pub CellPacked : List ℤ → Cell → ℕ → Type 0
+CellPacked ns c r = r ≡ packedCell (cellAnswer ns c)
+
+abbrev pub packedCorner : CornerAnswer → ℕ
+packedCorner a =
+    packedVerdict (a .verdict) + (a .kind * 2 ^ 16 + a .«how_many» * 2 ^ 8 + a .mask)
+
+abbrev pub CornerPacked : List ℤ → Corner → ℕ → Type 0
+CornerPacked ns v r = r ≡ packedCorner (cornerAnswer ns v)
+
+abbrev pub packedPart : Ends → ℕ
+packedPart e = cond (eqb (e .start) (e .end)) 0 (e .start * 2 ^ 32 + (e .end - e .start))
+
+abbrev pub PlanePacked : List ℤ → ℤ → ℕ → Type 0
+PlanePacked ns x r = r ≡ packedPart (planeEnds ns x)
+
+-- the low and the high end of each axis, in axis order
+abbrev pub threeAxes : ℤ → ℤ → ℤ → ℤ → ℤ → ℤ → List (List ℤ)
+threeAxes a a′ b b′ d d′ = (a ∷ a′ ∷ []) ∷ (b ∷ b′ ∷ []) ∷ (d ∷ d′ ∷ []) ∷ []
+
+abbrev pub packedValues : Values → ℕ
+packedValues v = packed (v .number) (v .operand) (v .place) 0 (v .count)
+
+unfoldable pub BoxPacked : List (List ℤ) → List ℤ → ℕ → List ℤ → Type 0
+BoxPacked ends before r after = (r ≡ packedValues (boxValues ends (length before))) × (after ≡ boxContents ends before)

@@ -1,0 +1,183 @@
+// The functions that C and Rust call, on slices of numbers and numbers. Each answers one number that packs document 01's values. It relies on
+// `lists` and `asks` for the answers, and only packs them. include/travelmap.h declares the same functions for C.
+ghost use mathlib.Core.Path.{_≡_};
+ghost use Prim.Native.Nat.{_≤_};
+ghost use Rattle.meaning.specs.Numbers.{cell, corner};
+ghost use Rattle.meaning.specs.Lists.{mostVertices};
+ghost use Rattle.meaning.specs.Verdicts.{refusalNumber, refusalPlace};
+ghost use Rattle.lists.specs.Box.{valuesOf};
+ghost use Rattle.asks.specs.Asks.{cellValues};
+ghost use Rattle.travelmap.specs.Packed.{packed, packedRefusal, packedVerdict, packedCell, packedValues, threeAxes, CheckPacked, CellPacked, CornerPacked, PlanePacked, BoxPacked};
+use asks::CellAnswer;
+use lists::Boxed;
+use meaning::Verdict;
+
+// What one of a value's units weighs in the packed number.
+const NUMBER: u64 = 72057594037927936;
+
+const OPERAND: u64 = 281474976710656;
+
+const PLACE: u64 = 4294967296;
+
+const SECOND: u64 = 65536;
+
+const HOW_MANY: u16 = 256;
+
+// The numbers of answers (document 01, "Why a call comes back") that are packed here.
+const DONE: u8 = 0;
+
+const NO_ROOM: u8 = 6;
+
+const BAD_NUMBER: u8 = 9;
+
+// The operand that a refusal names where there is one list.
+const ONE_LIST: u8 = 1;
+
+// What the cell query answers for yes.
+const YES: u64 = 1;
+
+// The vertices of a box.
+const BOX_VERTICES: u16 = 8;
+
+// The values of an answer as one number.
+fn pack(number: u8, operand: u8, place: u16, second: u16, count: u16) -> u64
+    ensures { λ r. ⌜ r ≡ packed number operand place second count ⌝ }
+{
+    number as u64 * NUMBER
+        + operand as u64 * OPERAND
+        + place as u64 * PLACE
+        + second as u64 * SECOND
+        + count as u64
+}
+
+// The number of a verdict.
+fn number_of(verdict: Verdict) -> u8
+    ensures { λ r. ⌜ r ≡ refusalNumber verdict ⌝ }
+{
+    match verdict {
+        Verdict::Valid => 0,
+        Verdict::NotTriples => 1,
+        Verdict::TooMany => 2,
+        Verdict::OutOfRange(_) => 3,
+        Verdict::NotRising(_) => 4,
+        Verdict::OddLine(_) => 5,
+    }
+}
+
+// The place that a verdict names, or 0.
+fn place_of(verdict: Verdict) -> usize
+    ensures { λ r. ⌜ r ≡ refusalPlace verdict ⌝ }
+{
+    match verdict {
+        Verdict::Valid => 0,
+        Verdict::NotTriples => 0,
+        Verdict::TooMany => 0,
+        Verdict::OutOfRange(place) => place,
+        Verdict::NotRising(place) => place,
+        Verdict::OddLine(place) => place,
+    }
+}
+
+// The refusal of the list that is this operand.
+fn pack_refusal(verdict: Verdict, operand: u8) -> u64
+    requires { ⌜ refusalPlace verdict ≤ mostVertices ⌝ }
+    ensures { λ r. ⌜ r ≡ packedRefusal operand verdict ⌝ }
+{
+    pack(number_of(verdict), operand, place_of(verdict) as u16, 0, 0)
+}
+
+// The verdict on the one list.
+fn pack_verdict(verdict: Verdict) -> u64
+    requires { ⌜ refusalPlace verdict ≤ mostVertices ⌝ }
+    ensures { λ r. ⌜ r ≡ packedVerdict verdict ⌝ }
+{
+    if number_of(verdict) == DONE {
+        return 0;
+    }
+    pack_refusal(verdict, ONE_LIST)
+}
+
+// The answer of the cell query.
+fn pack_cell(answer: CellAnswer) -> u64
+    requires { ⌜ cellValues answer .place ≤ mostVertices ⌝ }
+    ensures { λ r. ⌜ r ≡ packedCell answer ⌝ }
+{
+    match answer {
+        CellAnswer::Yes => YES,
+        CellAnswer::No => 0,
+        CellAnswer::Refused(verdict) => pack_refusal(verdict, ONE_LIST),
+    }
+}
+
+// The answer of making a box.
+fn pack_box(answer: Boxed) -> u64
+    ensures { λ r. ⌜ r ≡ packedValues (valuesOf answer) ⌝ }
+{
+    match answer {
+        Boxed::Done => pack(DONE, 0, 0, 0, BOX_VERTICES),
+        Boxed::BadEnds => pack(BAD_NUMBER, 0, 0, 0, 0),
+        Boxed::NoRoom => pack(NO_ROOM, 0, 0, 0, 0),
+    }
+}
+
+// Checks a list.
+#[no_mangle]
+pub extern "C" fn travelmap_check(list: &[i16]) -> u64
+    ensures { λ r. ⌜ CheckPacked (now (list .entry)) r ⌝ }
+{
+    pack_verdict(lists::check(list))
+}
+
+// Makes the map of a box from its low and high ends.
+#[no_mangle]
+pub extern "C" fn travelmap_box(
+    focus_low: i16,
+    focus_high: i16,
+    first_low: i16,
+    first_high: i16,
+    second_low: i16,
+    second_high: i16,
+    out: &mut [i16],
+) -> u64
+    ensures { λ r. ⌜ BoxPacked (threeAxes «focus_low» «focus_high» «first_low» «first_high» «second_low» «second_high») (now (out .entry)) r (now (out .exit)) ⌝ }
+{
+    let ends = [
+        [focus_low, focus_high],
+        [first_low, first_high],
+        [second_low, second_high],
+    ];
+    pack_box(lists::make_box(ends, out))
+}
+
+// Whether the cell is permitted.
+#[no_mangle]
+pub extern "C" fn travelmap_cell(list: &[i16], focus: i16, first: i16, second: i16) -> u64
+    ensures { λ r. ⌜ CellPacked (now (list .entry)) (cell focus first second) r ⌝ }
+{
+    pack_cell(asks::cell_permitted(list, focus, first, second))
+}
+
+// The corner report.
+#[no_mangle]
+pub extern "C" fn travelmap_corner(list: &[i16], focus: i16, first: i16, second: i16) -> u64
+    ensures { λ r. ⌜ CornerPacked (now (list .entry)) (corner focus first second) r ⌝ }
+{
+    let answer = asks::corner_report(list, focus, first, second);
+    let verdict = answer.verdict;
+    let cells = answer.how_many as u16 * HOW_MANY + answer.mask as u16;
+    pack_verdict(verdict) + pack(DONE, 0, 0, answer.kind as u16, cells)
+}
+
+// Where the vertices with that focus number stand in the list.
+#[no_mangle]
+pub extern "C" fn travelmap_plane(list: &[i16], focus: i16) -> u64
+    ensures { λ r. ⌜ PlanePacked (now (list .entry)) focus r ⌝ }
+{
+    let ends = asks::plane_ends(list, focus);
+    let start = ends.start;
+    let end = ends.end;
+    if start == end {
+        return 0;
+    }
+    start as u64 * PLACE + (end - start) as u64
+}

@@ -1,0 +1,142 @@
+//! The program: map text and wishes in, answer lines out. `host program` runs a compiled program on each input.
+
+use super::nearest;
+use crate::compare::Run;
+use crate::judge::{Known, DONE, EMPTY, ILL_FORMED, TOO_LONG, TOO_MANY, WRONG_SUM};
+use crate::make_text;
+use crate::map::MOST_VERTICES;
+use std::io::Write;
+use std::process::{Command, Stdio};
+
+/// The numbers that the program can answer; 7 stands in its answer lines.
+pub const NUMBERS: &[u8] = &[0, 2, 3, 4, 5, 7, 10, 11, 12];
+/// The most bytes of its input.
+const MOST_BYTES: usize = 19_214;
+/// The most wishes.
+pub const MOST_WISHES: usize = 256;
+
+/// A refusal: number and place.
+type Refused = (u8, usize);
+
+/// What is left of an input, line by line.
+struct Lines<'a> {
+    rest: &'a [u8],
+    /// The number of the line that was read last, from 1.
+    line: usize,
+}
+
+impl Lines<'_> {
+    /// The numbers of the next line, which must be the tag, so many times four digits, and its 0A.
+    fn numbers(&mut self, tag: &[u8; 2], count: usize) -> Result<Vec<u16>, Refused> {
+        self.line += 1;
+        let ill_formed = (ILL_FORMED, self.line);
+        let end = self.rest.iter().position(|&byte| byte == b'\n');
+        let line = &self.rest[..end.ok_or(ill_formed)?];
+        self.rest = &self.rest[line.len() + 1..];
+        let digits = line.strip_prefix(tag).ok_or(ill_formed)?;
+        if digits.len() != 4 * count {
+            return Err(ill_formed);
+        }
+        let numbers = digits.chunks(4).map(number);
+        numbers.collect::<Option<_>>().ok_or(ill_formed)
+    }
+}
+
+/// The number of some upper-case hexadecimal digits.
+fn number(digits: &[u8]) -> Option<u16> {
+    digits.iter().try_fold(0, |number, &digit| match digit {
+        b'0'..=b'9' => Some(number * 16 + u16::from(digit - b'0')),
+        b'A'..=b'F' => Some(number * 16 + u16::from(digit - b'A') + 10),
+        _ => None,
+    })
+}
+
+/// The map and the wishes of an input, checked in the order of document 01.
+fn read(input: &[u8]) -> Result<(Known, Vec<[i16; 3]>), Refused> {
+    if input.len() > MOST_BYTES {
+        return Err((TOO_LONG, 0));
+    }
+    let mut lines = Lines {
+        rest: input,
+        line: 0,
+    };
+    let count = lines.numbers(b"01", 1)?[0];
+    if usize::from(count) > MOST_VERTICES {
+        return Err((TOO_MANY, 0));
+    }
+    let mut list = Vec::new();
+    for _ in 0..count {
+        list.extend(lines.numbers(b"02", 3)?);
+    }
+    let sum = list.iter().fold(count, |sum, &n| sum.wrapping_add(n));
+    if lines.numbers(b"03", 1)? != [sum] {
+        return Err((WRONG_SUM, 0));
+    }
+    let known = Known::new(list.into_iter().map(|n| n as i16).collect());
+    if !known.valid() {
+        return Err((known.verdict.number, known.verdict.place.into()));
+    }
+    let mut wishes = Vec::new();
+    while !lines.rest.is_empty() {
+        let wish = lines.numbers(b"04", 3)?;
+        if wishes.len() == MOST_WISHES {
+            return Err((ILL_FORMED, lines.line));
+        }
+        wishes.push([0, 1, 2].map(|axis| wish[axis] as i16));
+    }
+    Ok((known, wishes))
+}
+
+/// The output due, and the number that is counted.
+pub fn judge(input: &[u8]) -> (u8, String) {
+    match read(input) {
+        Err((number, place)) => (number, format!("06{number:02X}{place:04X}\n")),
+        Ok((known, wishes)) => {
+            let lines = wishes.iter().map(|&wish| answer_line(&known, wish));
+            let number = if known.list.is_empty() { EMPTY } else { DONE };
+            (number, lines.collect())
+        }
+    }
+}
+
+/// The answer line of a wish.
+fn answer_line(known: &Known, wish: [i16; 3]) -> String {
+    let packed = nearest::judge(known, wish);
+    format!("05{:02X}{:012X}\n", packed >> 48, packed & 0xFFFF_FFFF_FFFF)
+}
+
+/// Compares a program with the judge's: bytes in, bytes out.
+pub fn compare(call: impl Fn(&[u8]) -> Vec<u8>, run: &mut Run) {
+    while run.goes_on() {
+        let input = make_text::input(&mut run.rng);
+        let (number, due) = judge(&input);
+        let given = call(&input);
+        run.count(number, given == due.as_bytes(), || {
+            let [given, input] = [&given, &input].map(|bytes| bytes.escape_ascii());
+            format!("should write {due:?} and writes \"{given}\" for \"{input}\"")
+        });
+    }
+}
+
+/// What a command writes when it is given the input; nothing where it cannot be run.
+fn run_command(words: &[String], input: &[u8]) -> Option<Vec<u8>> {
+    let mut command = Command::new(words.first()?);
+    command
+        .args(&words[1..])
+        .stdin(Stdio::piped())
+        .stdout(Stdio::piped());
+    let mut child = command.spawn().ok()?;
+    // A program that has read enough may end first.
+    let _ = child.stdin.take()?.write_all(input);
+    Some(child.wait_with_output().ok()?.stdout)
+}
+
+/// Compares a compiled program, run once for each input. Is all as it should be?
+pub fn compare_command(calls: u64, words: &[String]) -> bool {
+    let mut run = Run::new(crate::compare::SEED, calls);
+    compare(
+        |input| run_command(words, input).unwrap_or(b"(not run)".into()),
+        &mut run,
+    );
+    run.report("program", NUMBERS)
+}

@@ -1,0 +1,101 @@
+/* Travel maps of a lens: the functions of libtravelmap.a for C and C++.
+
+   A list holds three numbers a vertex: focus, first shift, second shift. It is a travel map when it has at most 1,024
+   vertices, every number is -512 to 512, the vertices rise strictly, and every line parallel to an axis holds an even
+   number of them. A cell is permitted when the number of vertices with all three numbers not above the cell's codes is
+   odd.
+
+   What is passed. A slice is two arguments: a pointer, and a length in numbers (not in bytes and not in vertices). The
+   pointer is aligned as int16_t is, and not null, also where the length is 0; as many numbers as the length says can
+   be read there, and in a result written. A result shares no memory with a list. Beyond that every argument may have
+   any value: a list need not be valid, and every number that is asked about may be any int16_t. Nothing is kept after
+   a call, no memory is taken, and functions may be called from several threads at once.
+
+   What comes back. Every function answers one uint64_t. Every answer but that of travelmap_plane has
+
+       bits 56 to 63   the number: 0 when all is done, else why the call was refused (below)
+       bits 48 to 55   the operand: the list that is refused, from 1; else 0
+       bits 32 to 47   the place: the vertex that is refused, from 0; else 0
+       bits 16 to 31   the second count, where a call makes two lists; else 0
+       bits  0 to 15   the count of the vertices of the list that was made; else 0
+
+   and the cell query and the corner report use the lower bits as they say below. After a refusal the lower 32 bits are
+   0, and a result is untouched. After success the list stands at the front of the result, and everything behind it is
+   untouched. */
+
+#ifndef TRAVELMAP_H
+#define TRAVELMAP_H
+
+#include <stddef.h>
+#include <stdint.h>
+
+#ifdef __cplusplus
+extern "C" {
+#endif
+
+/* The numbers of answers, each with its cause. Order: 8 or 9; then 1, 2, 3, 4, 5 of the first list, each over the whole
+   list before the next; then the same of the second; then 7 or 6. */
+enum travelmap_number {
+    TRAVELMAP_DONE = 0,
+    TRAVELMAP_NOT_TRIPLES = 1,   /* the list's length is not a multiple of 3 */
+    TRAVELMAP_TOO_MANY = 2,      /* the list has more than 1,024 vertices */
+    TRAVELMAP_OUT_OF_RANGE = 3,  /* a number outside -512 to 512; place: the first such vertex, from 0 */
+    TRAVELMAP_NOT_RISING = 4,    /* a vertex not above the one before it; place: the first such vertex */
+    TRAVELMAP_ODD_LINE = 5,      /* an odd line; place: the first vertex, in list order, on any odd line */
+    TRAVELMAP_NO_ROOM = 6,       /* the correct result has more vertices (pairs) than fit, or more than 1,024 */
+    TRAVELMAP_EMPTY = 7,         /* nearest asked of the empty list */
+    TRAVELMAP_BAD_OPERATION = 8, /* operation not 1 to 4 */
+    TRAVELMAP_BAD_NUMBER = 9,    /* axis not 0 to 2, section code or split number out of range, bad box ends */
+    TRAVELMAP_ILL_FORMED = 10,   /* map or wish text ill formed; place: the line, from 1 */
+    TRAVELMAP_WRONG_SUM = 11,    /* closing sum wrong */
+    TRAVELMAP_TOO_LONG = 12      /* program input over 19,214 bytes */
+};
+
+/* The parts of an answer. */
+#define TRAVELMAP_NUMBER(answer) ((unsigned)((uint64_t)(answer) >> 56))
+#define TRAVELMAP_OPERAND(answer) ((unsigned)((uint64_t)(answer) >> 48 & 0xFF))
+#define TRAVELMAP_PLACE(answer) ((unsigned)((uint64_t)(answer) >> 32 & 0xFFFF))
+#define TRAVELMAP_SECOND_COUNT(answer) ((unsigned)((uint64_t)(answer) >> 16 & 0xFFFF))
+#define TRAVELMAP_COUNT(answer) ((unsigned)((uint64_t)(answer) & 0xFFFF))
+
+/* The cell query: 1 for yes, 0 for no. */
+#define TRAVELMAP_YES(answer) ((unsigned)((uint64_t)(answer) & 1))
+
+/* The corner report: the mask of the eight cells, how many of them are permitted, and the kind. */
+#define TRAVELMAP_MASK(answer) ((unsigned)((uint64_t)(answer) & 0xFF))
+#define TRAVELMAP_HOW_MANY(answer) ((unsigned)((uint64_t)(answer) >> 8 & 0xFF))
+#define TRAVELMAP_KIND(answer) ((unsigned)((uint64_t)(answer) >> 16 & 0xFF))
+
+/* The plane query: where the part starts in the list, and its length, both in numbers. */
+#define TRAVELMAP_START(answer) ((size_t)((uint64_t)(answer) >> 32))
+#define TRAVELMAP_LENGTH(answer) ((size_t)((uint64_t)(answer) & 0xFFFFFFFF))
+
+/* Is the list a travel map? 0, or one of 1 to 5 with operand 1. */
+uint64_t travelmap_check(const int16_t *list, size_t length);
+
+/* Makes the map of a box from its low and high end on each axis; a box's cells go from the low end to below the high
+   one. A low end is -512 to 511, a high end is above the low one and at most 512: else 9. The result needs room for
+   24 numbers: else 6. Done: the count is 8, and the eight vertices stand at the front of the result. */
+uint64_t travelmap_box(int16_t focus_low, int16_t focus_high, int16_t first_low, int16_t first_high, int16_t second_low,
+                       int16_t second_high, int16_t *result, size_t result_length);
+
+/* Is the cell permitted? Outside the codes, -512 to 511, the answer is no. Bit 0 says yes; an invalid list is answered
+   with its refusal (1 to 5, operand 1) and no. */
+uint64_t travelmap_cell(const int16_t *list, size_t length, int16_t focus, int16_t first, int16_t second);
+
+/* The corner report. Bits 0 to 7: the mask of the permitted cells round the corner; its bit 4i + 2j + k is the cell
+   whose codes are the corner's numbers, less 1 on each axis where i, j, k (in axis order) is 0. Bits 8 to 15: how many
+   they are. Bits 16 to 23: the kind, 0 no vertex, 1 V3, 2 V4, 3 V4N1, 4 V4N2, 5 V5N, 6 V6, 7 V6N1, 8 V6N2. An invalid
+   list is answered with its refusal (1 to 5, operand 1) and 0 in all three. */
+uint64_t travelmap_corner(const int16_t *list, size_t length, int16_t focus, int16_t first, int16_t second);
+
+/* The vertices with that focus number, as a part of the list. Bits 32 to 63: where it starts. Bits 0 to 31: its length.
+   Both in numbers, so that the part is list[start] to list[start + length - 1]. 0 where it is empty; for an invalid
+   list that is its refusal. */
+uint64_t travelmap_plane(const int16_t *list, size_t length, int16_t focus);
+
+#ifdef __cplusplus
+}
+#endif
+
+#endif
