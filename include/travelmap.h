@@ -11,7 +11,8 @@
    any value: a list need not be valid, and every number that is asked about may be any int16_t. Nothing is kept after
    a call, no memory is taken, and functions may be called from several threads at once.
 
-   What comes back. Every function answers one uint64_t. Every answer but that of travelmap_plane has
+   What comes back. Every function answers one uint64_t. Every answer but those of travelmap_plane and
+   travelmap_nearest has
 
        bits 56 to 63   the number: 0 when all is done, else why the call was refused (below)
        bits 48 to 55   the operand: the list that is refused, from 1; else 0
@@ -19,7 +20,7 @@
        bits 16 to 31   the second count, where a call makes two lists; else 0
        bits  0 to 15   the count of the vertices of the list that was made; else 0
 
-   and the cell query and the corner report use the lower bits as they say below. After a refusal the lower 32 bits are
+   and the cell query, the corner report and the distance use the lower bits as they say below. After a refusal the lower 32 bits are
    0, and a result is untouched. After success the list stands at the front of the result, and everything behind it is
    untouched. */
 
@@ -70,6 +71,16 @@ enum travelmap_number {
 #define TRAVELMAP_START(answer) ((size_t)((uint64_t)(answer) >> 32))
 #define TRAVELMAP_LENGTH(answer) ((size_t)((uint64_t)(answer) & 0xFFFFFFFF))
 
+/* Nearest: the number, which stands elsewhere than in other answers, and the three codes of the cell. */
+#define TRAVELMAP_NEAREST_NUMBER(answer) ((unsigned)((uint64_t)(answer) >> 48))
+#define TRAVELMAP_SIGNED(bits) ((int16_t)((int32_t)((bits) & 0xFFFF) - (int32_t)((bits) & 0x8000) * 2))
+#define TRAVELMAP_NEAREST_FOCUS(answer) TRAVELMAP_SIGNED((uint64_t)(answer) >> 32)
+#define TRAVELMAP_NEAREST_FIRST(answer) TRAVELMAP_SIGNED((uint64_t)(answer) >> 16)
+#define TRAVELMAP_NEAREST_SECOND(answer) TRAVELMAP_SIGNED((uint64_t)(answer))
+
+/* The distance to the nearest cell. */
+#define TRAVELMAP_DISTANCE(answer) ((uint32_t)((uint64_t)(answer) & 0xFFFFFFFF))
+
 /* Is the list a travel map? 0, or one of 1 to 5 with operand 1. */
 uint64_t travelmap_check(const int16_t *list, size_t length);
 
@@ -93,6 +104,31 @@ uint64_t travelmap_corner(const int16_t *list, size_t length, int16_t focus, int
    Both in numbers, so that the part is list[start] to list[start + length - 1]. 0 where it is empty; for an invalid
    list that is its refusal. */
 uint64_t travelmap_plane(const int16_t *list, size_t length, int16_t focus);
+
+/* The operations of a join. */
+enum travelmap_operation {
+    TRAVELMAP_UNION = 1,
+    TRAVELMAP_OVERLAP = 2,
+    TRAVELMAP_WITHOUT = 3,  /* the first map without the second */
+    TRAVELMAP_EXCLUSIVE = 4 /* exclusive or */
+};
+
+/* Joins two maps: a cell is in the result exactly when the operation holds of its two memberships. 8 where the operation
+   is none of the four; 1 to 5 with operand 1 or 2 where a list is not valid; 6 where the result's list has more than
+   1,024 vertices, or three times its vertices is more than the result's length. Done: the count of its vertices, and
+   the list stands at the front of the result. */
+uint64_t travelmap_join(uint32_t operation, const int16_t *first, size_t first_length, const int16_t *second,
+                        size_t second_length, int16_t *result, size_t result_length);
+
+/* The permitted cell nearest to a wish. The distance is the sum of the three differences without sign; of several cells
+   the one with the lowest focus, then the lowest first shift, then the lowest second shift. Bits 48 to 63: the number, 0,
+   1 to 5 of an invalid list, or 7 of the empty list. Then the cell's codes in two's complement, focus in bits 32 to 47,
+   first shift in 16 to 31, second shift in 0 to 15; all 0 after a refusal. */
+uint64_t travelmap_nearest(const int16_t *list, size_t length, int16_t focus, int16_t first, int16_t second);
+
+/* The distance from a wish to the nearest permitted cell, in bits 0 to 31. An invalid list is answered with its refusal
+   (1 to 5, operand 1), the empty list with 7, and the distance is then 0. */
+uint64_t travelmap_nearest_distance(const int16_t *list, size_t length, int16_t focus, int16_t first, int16_t second);
 
 #ifdef __cplusplus
 }

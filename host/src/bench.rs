@@ -13,8 +13,8 @@ const SIZES: [usize; 4] = [8, 64, 256, 1024];
 /// Numbers that are asked of a map in turn.
 const ASKED: usize = 16;
 /// How long one round of calls takes, and how many rounds there are; the quickest counts.
-const ROUND: Duration = Duration::from_millis(4);
-const ROUNDS: usize = 7;
+const ROUND: Duration = Duration::from_micros(600);
+const ROUNDS: usize = 80;
 /// The seed of the maps.
 const SEED: u64 = 0x62_656E_6368;
 

@@ -2,15 +2,19 @@
 --   xor-assoc, xor-comm, xor-left    exclusive or: grouping, order
 --   xor-self, false-xor, xor-false   the same twice; nothing
 --   odd-cons, odd-append, odd-snoc   whether an odd number of a list passes a test
+--   Evenly, paired-more, paired-all  equal neighbours, two by two, so that every key occurs evenly
 --   odd-read, odd-whole              the same of a list that is read from the front: one member more; all of them
-use mathlib.Core.Path.{_≡_, refl, ap, sym, _∙_}
-use mathlib.Core.Bool.{Bool, true, false, not, Bool·beq, cond, xor}
+use mathlib.Core.Path.{_≡_, refl, ap, ap₂, sym, _∙_}
+use mathlib.Core.Bool.{Bool, true, false, not, Bool·beq, cond, xor, true≢false}
 use mathlib.Core.List.{List, [], _∷_, _++_}
 use Prim.Native.Nat.{ℕ, suc, _+_, _≤_, _<_}
 use native.Mathlib.Numerals.{add-one}
+use native.Mathlib.Omega.{arith}
 use lib.ListN.{length, take, getD}
-use lib.Seq.{take-suc, take-all}
+use lib.Seq.{take-suc, take-all, take-length}
+use lib.Dec.{eqb}
 use Rattle.meaning.specs.Counting.{count, odd}
+use Rattle.meaning.proofs.Parity.{_⊕_, sum, odd-count, sum-append}
 
 pub xor-assoc : (a b c : Bool) → xor (xor a b) c ≡ xor a (xor b c)
 unfolding xor
@@ -78,3 +82,29 @@ module _ (p : ℕ → Bool) (l : List ℕ) (i : ℕ) where
 
   pub odd-whole : {b : Bool} → length l ≤ i → b ≡ odd (count p (take i l)) → b ≡ odd (count p l)
   odd-whole h e = e ∙ ap (λ (m : List ℕ). odd (count p m)) (take-all i l h)
+
+-- ---- equal neighbours
+
+-- every key occurs evenly among the first i
+abbrev pub Evenly : List ℕ → ℕ → Type 0
+Evenly l i = (key : ℕ) → odd (count (λ k. eqb key k) (take i l)) ≡ false
+
+pub paired-more : (l : List ℕ) (i : ℕ) → i + 1 < length l → getD l i 0 ≡ getD l (i + 1) 0 → Evenly l i → Evenly l (i + 2)
+paired-more l i h e even key =
+    let p : i + 2 ≡ suc (suc i) = omega arith in
+    let q : i + 1 ≡ suc i = omega arith in
+    odd-count (eqb key) (take (i + 2) l) ∙
+    ap (λ n. sum (eqb key) (take n l)) p ∙
+    ap (sum (eqb key)) (take-suc l (suc i) 0 (omega arith)) ∙
+    sum-append (eqb key) (take (suc i) l) (getD l (suc i) 0 ∷ []) ∙
+    ap₂ _⊕_ (ap (sum (eqb key)) (take-suc l i 0 (omega arith)) ∙ sum-append (eqb key) (take i l) (getD l i 0 ∷ []))
+    (ap (λ n. eqb key n ⊕ false) (ap (λ n. getD l n 0) (sym q) ∙ sym e)) ∙
+    undone (sum (eqb key) (take i l)) (eqb key (getD l i 0)) (sym (odd-count (eqb key) (take i l)) ∙ even key)
+  where
+    undone : (s t : Bool) → s ≡ false → ((s ⊕ (t ⊕ false)) ⊕ (t ⊕ false)) ≡ false
+    undone true t f = absurd (true≢false f)
+    undone false true f = refl
+    undone false false f = refl
+
+pub paired-all : (l : List ℕ) (i : ℕ) → i ≡ length l → Evenly l i → (key : ℕ) → odd (count (λ k. eqb key k) l) ≡ false
+paired-all l i e even key = ap (λ m. odd (count (λ k. eqb key k) m)) (sym (ap (λ n. take n l) e ∙ take-length l)) ∙ even key

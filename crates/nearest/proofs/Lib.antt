@@ -8,3 +8,4 @@ pub mod Sweeping
 pub mod Distances
 pub mod Ranks
 pub mod Answers
+pub mod Reach

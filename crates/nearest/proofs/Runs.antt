@@ -3,6 +3,8 @@
 --   section-none, section-up, section-down          a section grows by a run, and shrinks by it again
 --   section-short                                   a section is no longer than its list
 --   run-begins, run-goes-on, run-stops, run-ends    where a run ends
+--   Back, back-begins, back-run, back-on, back-stops    where a run begins
+--   Split, split-all, split-up, split-down, split-cut, split-low    the numbers up to a code
 --   turn-none, turn-void                            no cells below the first cut; none where the section is empty
 --   turn                                            the cells between two cuts with one run between them
 -- Assumes nothing.
@@ -247,6 +249,102 @@ module _ (unit : ℕ) (u : 0 < unit) (l : List ℕ) (rises : From 0 l) (i : ℕ)
 
     pub run-ends : length l ≤ e → Cut (high unit) l e
     run-ends h = record { within = run .within; apart = λ j n p q r. absurd (omega arith) }
+
+-- before the first number no run goes on
+pub cut-none : (hi : ℕ → ℕ) (l : List ℕ) (i : ℕ) → i ≤ 0 → Cut hi l i
+cut-none hi l i h = record { within = omega arith; apart = λ j k p q r. absurd (omega arith) }
+
+-- ---- where a run begins, and which numbers lie up to a code
+
+-- the numbers from j to below i have the high part of the last of them
+pub record Back (unit : ℕ) (l : List ℕ) (i j : ℕ) : Type 0 where
+  pub some : j < i
+  pub within : i ≤ length l
+  pub same : (k : ℕ) → j ≤ k → k < i → high unit (getD l k 0) ≡ high unit (getD l (i - 1) 0)
+
+-- the numbers before lo lie below a bound, those from hi on do not
+pub record Split (l : List ℕ) (bound lo hi : ℕ) : Type 0 where
+  pub order : lo ≤ hi
+  pub within : hi ≤ length l
+  pub under : (j : ℕ) → j < lo → getD l j 0 < bound
+  pub over : (j : ℕ) → hi ≤ j → j < length l → bound ≤ getD l j 0
+
+module _ (unit : ℕ) (u : 0 < unit) (l : List ℕ) (rises : From 0 l) where
+  pub back-begins : (i : ℕ) → 0 < i → i ≤ length l → Back unit l i (i - 1)
+  back-begins i h k =
+      record { some = omega arith; within = k; same = λ n p q. let s : n ≡ i - 1 = omega arith in ap (λ m. high unit (getD l m 0)) s }
+
+  module _ (i j : ℕ) (b : Back unit l i j) where
+    pub back-run : Run (high unit) l j i
+    back-run = record { some = b .some; within = b .within; same = λ k p q. b .same k p q ∙ sym (b .same j (omega arith) (b .some)) }
+
+    pub back-on : 0 < j → getD l (i - 1) 0 / unit * unit ≤ getD l (j - 1) 0 → Back unit l i (j - 1)
+    back-on h k =
+        record {
+          some = omega (arith, b .some);
+          within = b .within;
+          same = λ n p q. go n p q (ltb n j) refl;
+        }
+      where
+        last : high unit (getD l (j - 1) 0) ≡ high unit (getD l (i - 1) 0)
+        last =
+            let p : high unit (getD l (i - 1) 0) ≤ high unit (getD l (j - 1) 0) = le-div-iff-mul-le u .1 k in
+            let q = high-mono unit u l rises (j - 1) (i - 1) (omega (arith, b .some)) (omega (arith, b .some, b .within)) in
+            omega arith
+
+        go : (n : ℕ) → j - 1 ≤ n → n < i → (t : Bool) → ltb n j ≡ t → high unit (getD l n 0) ≡ high unit (getD l (i - 1) 0)
+        go n p q true e = let s : n ≡ j - 1 = omega (arith, ltb-true n j e) in ap (λ m. high unit (getD l m 0)) s ∙ last
+        go n p q false e = b .same n (ltb-false n j e) q
+
+    pub back-stops : 0 < j → getD l (j - 1) 0 < getD l (i - 1) 0 / unit * unit → Cut (high unit) l j
+    back-stops h k =
+        record {
+          within = omega (arith, b .some, b .within);
+          apart = λ m n p q r.
+              let a = high-mono unit u l rises m (j - 1) (omega arith) (omega (arith, b .some, b .within)) in
+              let c : high unit (getD l (j - 1) 0) < high unit (getD l (i - 1) 0) = div-lt-iff-lt-mul u .1 k in
+              let d = high-mono unit u l rises j n q r in
+              omega (arith, b .same j (omega arith) (b .some));
+        }
+
+  module _ (bound lo hi mid : ℕ) (s : Split l bound lo hi) (h : lo ≤ mid) (k : mid < hi) where
+    pub split-up : getD l mid 0 < bound → Split l bound (mid + 1) hi
+    split-up p =
+        record {
+          order = omega arith;
+          within = s .within;
+          under = λ j q. omega (arith, from-le 0 l rises j mid (omega arith) (omega (arith, s .within)));
+          over = s .over;
+        }
+
+    pub split-down : bound ≤ getD l mid 0 → Split l bound lo mid
+    split-down p =
+        record {
+          order = h;
+          within = omega (arith, s .within);
+          under = s .under;
+          over = λ j q r. omega (arith, from-le 0 l rises mid j q r);
+        }
+
+  pub split-all : (bound : ℕ) → Split l bound 0 (length l)
+  split-all bound = record { order = omega arith; within = omega arith; under = λ j p. absurd (omega arith); over = λ j p q. absurd (omega arith) }
+
+  module _ (code lo : ℕ) (s : Split l ((code + 1) * unit) lo lo) where
+    upto-code : (j : ℕ) → j < lo → high unit (getD l j 0) < code + 1
+    upto-code j p = div-lt-iff-lt-mul u .1 (s .under j p)
+
+    pub split-low : 0 < lo → high unit (getD l (lo - 1) 0) ≤ code
+    split-low p = omega (arith, upto-code (lo - 1) (omega arith))
+
+    pub split-cut : Cut (high unit) l lo
+    split-cut =
+        record {
+          within = s .within;
+          apart = λ j k p q r.
+              let a = upto-code j p in
+              let b : code + 1 ≤ high unit (getD l k 0) = le-div-iff-mul-le u .1 (s .over k q r) in
+              omega arith;
+        }
 
 -- ---- the high part at a place
 

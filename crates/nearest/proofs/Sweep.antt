@@ -3,7 +3,8 @@
 --   slab-none, slab-stop     no cells; none that is better
 --   slab-step                the cells of a slab, by the cells of its section at the least value of the slab's codes
 --   slab-void                an empty section has no cells
---   slab-two, slab-all       two slabs one upon the other; the whole range
+--   slab-two, slab-down      two slabs one upon the other, from below or from above
+--   slab-all                 the whole range
 --   rank-stop                none of a section's cells is better
 -- Assumes nothing.
 use mathlib.Core.Path.{_≡_, refl, sym, _∙_, ap, ap₂}
@@ -45,16 +46,32 @@ module _ (hi lo v : ℕ → ℕ) (D : Depth) (l : List ℕ) (base : ℕ) where
   pub slab-stop : (low high p m : ℕ) → Least v low high p → m ≤ base + p → Best (In low high) m m
   slab-stop low high p m h k = best-none (In low high) m (λ q t. omega (arith, t .is, h .every (t .code) (t .from) (t .below)))
 
-  pub slab-two : (x y z m r s : ℕ) → x ≤ y → y ≤ z → Best (In x y) m r → Best (In y z) r s → Best (In x z) m s
-  slab-two x y z m r s h k =
-      best-then (In x y) (In y z) (In x z) m r s
-      (λ q t. record { code = t .code; from = t .from; below = omega (arith, t .below); at = t .at; within = t .within; member = t .member; is = t .is })
-      (λ q t. record { code = t .code; from = omega (arith, t .from); below = t .below; at = t .at; within = t .within; member = t .member; is = t .is })
-      (λ q t. side q t (ltb (t .code) y) refl)
+  -- a cell of one of two slabs, one upon the other, is a cell of both together, and back
+  lower-of : (x y z : ℕ) → y ≤ z → (q : ℕ) → In x y q → In x z q
+  lower-of x y z k q t =
+      record { code = t .code; from = t .from; below = omega (arith, t .below); at = t .at; within = t .within; member = t .member; is = t .is }
+
+  upper-of : (x y z : ℕ) → x ≤ y → (q : ℕ) → In y z q → In x z q
+  upper-of x y z h q t =
+      record { code = t .code; from = omega (arith, t .from); below = t .below; at = t .at; within = t .within; member = t .member; is = t .is }
+
+  one-of : (x y z q : ℕ) → In x z q → In x y q ⊎ In y z q
+  one-of x y z q t = side (ltb (t .code) y) refl
     where
-      side : (q : ℕ) (t : In x z q) (b : Bool) → ltb (t .code) y ≡ b → In x y q ⊎ In y z q
-      side q t true e = inl (record { code = t .code; from = t .from; below = ltb-true (t .code) y e; at = t .at; within = t .within; member = t .member; is = t .is })
-      side q t false e = inr (record { code = t .code; from = ltb-false (t .code) y e; below = t .below; at = t .at; within = t .within; member = t .member; is = t .is })
+      side : (b : Bool) → ltb (t .code) y ≡ b → In x y q ⊎ In y z q
+      side true e = inl (record { code = t .code; from = t .from; below = ltb-true (t .code) y e; at = t .at; within = t .within; member = t .member; is = t .is })
+      side false e = inr (record { code = t .code; from = ltb-false (t .code) y e; below = t .below; at = t .at; within = t .within; member = t .member; is = t .is })
+
+  pub slab-two : (x y z m r s : ℕ) → x ≤ y → y ≤ z → Best (In x y) m r → Best (In y z) r s → Best (In x z) m s
+  slab-two x y z m r s h k = best-then (In x y) (In y z) (In x z) m r s (lower-of x y z k) (upper-of x y z h) (one-of x y z)
+
+  -- the upper one first
+  pub slab-down : (x y z m r s : ℕ) → x ≤ y → y ≤ z → Best (In y z) m r → Best (In x y) r s → Best (In x z) m s
+  slab-down x y z m r s h k = best-then (In y z) (In x y) (In x z) m r s (upper-of x y z h) (lower-of x y z k) (λ q t. other (one-of x y z q t))
+    where
+      other : {P Q : Type 0} → P ⊎ Q → Q ⊎ P
+      other (inl a) = inr a
+      other (inr b) = inl b
 
   pub slab-all : (m r : ℕ) → Best (In 0 1024) m r → Best (Rank (over hi lo v D) l base) m r
   slab-all m r =

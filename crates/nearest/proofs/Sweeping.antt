@@ -1,21 +1,25 @@
--- The sweep of one axis, plane by plane or line by line: upward from a cut, with the section of all that lies below at hand.
+-- The sweep of one axis, plane by plane or line by line: upward and downward from a cut, with the section of all that lies below at hand.
 --   slice-of, slice-high, slice-turn            a slab, by the cells of its section
 --   nothing-better                              a stretch without a better cell
 --   Sweeping                                    so far the sweep has come
 --   sweep-begins, sweep-on, sweep-over          the first, each further and the last slab
+--   Sinking, sink-begins, sink-on, sink-over    the same downward
 --   first-cut, sweep-none, sweep-whole          nothing lies below the first number; below a place and from there up is everywhere
 -- Assumes nothing.
 use mathlib.Core.Path.{_≡_, refl, sym, _∙_, ap, subst}
 use mathlib.Core.Logic.{_⊎_, inl, inr}
+use mathlib.Core.Bool.{Bool, true, false}
 use mathlib.Core.List.{List}
 use Prim.Native.Nat.{ℕ, _+_, _-_, _*_, _≤_, _<_}
 use native.Mathlib.Omega.{arith}
+use lib.Dec.{ltb}
 use lib.ListN.{length, getD, take}
+use borrow.Author.Tests.{ltb-true, ltb-false}
 use Rattle.rising.specs.Merged.{From, merged, lessBase}
 use Rattle.nearest.specs.Search.{Best, Least, Depth, Rank, value, high, rest, highAt, Cut, Run, Section, Between, axisOver, Slice, Nothing}
 use Rattle.nearest.specs.declared.values.Scale.{Scale}
-use Rattle.nearest.proofs.Sweep.{slab-none, slab-stop, slab-two, slab-all}
-use Rattle.nearest.proofs.Runs.{high-mono, high-in, high-out, high-end, turn, turn-high, turn-none, runOf, run-up}
+use Rattle.nearest.proofs.Sweep.{slab-none, slab-stop, slab-two, slab-down, slab-all}
+use Rattle.nearest.proofs.Runs.{high-mono, high-in, high-out, high-end, turn, turn-high, turn-none, runOf, run-up, run-down}
 
 module _ (unit : ℕ) (u : 0 < unit) (scale : Scale) (l : List ℕ) (rises : From 0 l) (base : ℕ) where
   -- the high part at a place within the codes
@@ -36,6 +40,16 @@ module _ (unit : ℕ) (u : 0 < unit) (scale : Scale) (l : List ℕ) (rises : Fro
             (subst (λ (n : ℕ). Least (value scale) n (highAt (high unit) l e) p) (high-here i (omega (arith, run .some, run .within)) low) q);
         above = omega arith;
       }
+
+  -- what stands before a cut within the codes has a lower high part
+  pub below-high : (i : ℕ) → 0 < i → Cut (high unit) l i → high unit (getD l (i - 1) 0) < 1024 → high unit (getD l (i - 1) 0) < highAt (high unit) l i
+  below-high i h cut low = go (ltb i (length l)) refl
+    where
+      go : (b : Bool) → ltb i (length l) ≡ b → high unit (getD l (i - 1) 0) < highAt (high unit) l i
+      go true e =
+          let k = ltb-true i (length l) e in
+          omega (arith, high-in (high unit) l i k, cut .apart (i - 1) i (omega arith) (omega arith) k)
+      go false e = omega (arith, high-out (high unit) l i (ltb-false i (length l) e))
 
   pub between-high : (i e : ℕ) → Run (high unit) l i e → Cut (high unit) l i → Cut (high unit) l e → high unit (getD l i 0) < 1024 → high unit (getD l i 0) < highAt (high unit) l e
   between-high i e run before after low =
@@ -100,6 +114,57 @@ module _ (unit : ℕ) (u : 0 < unit) (scale : Scale) (D : Depth) (l : List ℕ) 
                   slab-two (high unit) (rest unit) (value scale) D l base (highAt (high unit) l start) (highAt (high unit) l i) (highAt (high unit) l e) m found next
                   (w .onward) (omega (arith, slice-high unit u scale l rises base D i e rank t)) (w .done)
                   (slice-turn unit u scale l rises base D i e rank t (take r room′) section-ahead found next b);
+            }
+
+-- ---- downward
+
+pub record Sinking (unit : ℕ) (scale : Scale) (D : Depth) (l : List ℕ) (start base m : ℕ) (room : List ℕ) (i count found : ℕ) : Type 0 where
+  pub cut : Cut (high unit) l i
+  pub inside : 0 < i → high unit (getD l (i - 1) 0) < 1024
+  pub section : Section (rest unit) (take i l) (take count room)
+  pub fits : count ≤ length room
+  pub onward : highAt (high unit) l i ≤ highAt (high unit) l start
+  pub done : Best (Between unit scale D l (highAt (high unit) l i) (highAt (high unit) l start) base) m found
+
+module _ (unit : ℕ) (u : 0 < unit) (scale : Scale) (D : Depth) (l : List ℕ) (rises : From 0 l) (start base m : ℕ) where
+  pub sink-begins : (room : List ℕ) (count : ℕ) → count ≤ length room → Cut (high unit) l start → (0 < start → high unit (getD l (start - 1) 0) < 1024)
+      → Section (rest unit) (take start l) (take count room) → Sinking unit scale D l start base m room start count m
+  sink-begins room count h c k s =
+      record {
+        cut = c;
+        inside = k;
+        section = s;
+        fits = h;
+        onward = omega arith;
+        done = slab-none (high unit) (rest unit) (value scale) D l base (highAt (high unit) l start) (highAt (high unit) l start) m (omega arith);
+      }
+
+  module _ (room : List ℕ) (i count found : ℕ) (w : Sinking unit scale D l start base m room i count found) where
+    pub sink-over : (i ≡ 0) ⊎ Nothing scale 0 (highAt (high unit) l i) base found → Best (Between unit scale D l 0 (highAt (high unit) l start) base) m found
+    sink-over h =
+        slab-down (high unit) (rest unit) (value scale) D l base 0 (highAt (high unit) l i) (highAt (high unit) l start) m found found (omega arith) (w .onward) (w .done) (under h)
+      where
+        under : (i ≡ 0) ⊎ Nothing scale 0 (highAt (high unit) l i) base found → Best (Between unit scale D l 0 (highAt (high unit) l i) base) found found
+        under (inl e) =
+            subst (λ (n : ℕ). Best (Between unit scale D l 0 (highAt (high unit) l n) base) found found) (sym e)
+            (turn-none (high unit) (rest unit) (value scale) D l base (high-mono unit u l rises) found)
+        under (inr k) = nothing-better unit u scale l rises base D 0 (highAt (high unit) l i) found k
+
+    module _ (j rank : ℕ) (t : Slice unit scale l base j i rank) (room′ : List ℕ) (r : ℕ)
+        (crossed : take r room′ ≡ merged (take count room) (lessBase (high unit (getD l j 0) * unit) (runOf l j i)))
+      where
+        pub sink-on : r ≤ length room′ → (next : ℕ) → Best (Rank D (take count room) rank) found next → Sinking unit scale D l start base m room′ j r next
+        sink-on f next b =
+            record {
+              cut = t .before;
+              inside = λ p. omega (arith, t .before .apart (j - 1) j (omega arith) (omega arith) (omega (arith, t .run .some, t .run .within)), t .low);
+              section = subst (λ (s : List ℕ). Section (rest unit) (take j l) s) (sym crossed) (run-down unit l rises j i (t .run) (take count room) (w .section));
+              fits = f;
+              onward = omega (arith, w .onward, slice-high unit u scale l rises base D j i rank t);
+              done =
+                  slab-down (high unit) (rest unit) (value scale) D l base (highAt (high unit) l j) (highAt (high unit) l i) (highAt (high unit) l start) m found next
+                  (omega (arith, slice-high unit u scale l rises base D j i rank t)) (w .onward) (w .done)
+                  (slice-turn unit u scale l rises base D j i rank t (take count room) (w .section) found next b);
             }
 
 -- ---- the whole range

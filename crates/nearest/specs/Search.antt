@@ -13,24 +13,27 @@
 --   highAt                 the high part of the number at a place, or the end
 --   Cut                    a place where no run of one high part goes on
 --   Run                    the numbers from one place to below another have one high part
---   Slice, Nothing, Ahead  one slab of a sweep; nothing that is worth looking at; the next slab upward
+--   Slice, Nothing         one slab of a sweep; nothing that is worth looking at
+--   Ahead, Behind, Begun   the next slab upward and downward; where both sweeps begin
 --   Section                what is left of a list when the high parts are dropped: rising, with the same sums
 --   rankOf, Ranked         a cell's distance and codes as one number; the least of the permitted cells
+--   partOn, Extends        the part of a key on an axis; from where to where the parts of some keys lie
 --   Brought                the scale of an axis for a wish
 use mathlib.Core.Path.{_≡_}
 use mathlib.Core.Logic.{_⊎_}
 use mathlib.Core.Bool.{Bool, true, _&&_, cond}
 use mathlib.Core.List.{List}
-use Prim.Native.Nat.{ℕ, _+_, _-_, _*_, _/_, _%_, _≤_, _<_, min}
+use Prim.Native.Nat.{ℕ, zero, suc, _+_, _-_, _*_, _/_, _%_, _≤_, _<_, min}
 use lib.Dec.{leb, ltb}
 use lib.IntN.{ℤ}
-use lib.ListN.{length, getD}
+use lib.ListN.{length, getD, take}
 use Rattle.meaning.specs.Numbers.{Cell, cell, number}
 use Rattle.meaning.specs.Lists.{vertices, permitted}
 use Rattle.meaning.specs.Nearest.{distance}
 use Rattle.meaning.proofs.Parity.{sum}
 use Rattle.rising.specs.Merged.{From}
 use Rattle.nearest.specs.declared.values.Scale.{Scale}
+use Rattle.nearest.specs.declared.extents.Extent.{Extent}
 use Rattle.nearest.specs.declared.search.Step.{Step}
 use Rattle.nearest.specs.declared.search.Step.the-variants.{Done, Slab as Slab′}
 
@@ -165,6 +168,17 @@ abbrev pub Ahead : ℕ → Scale → List ℕ → ℕ → ℕ → ℕ → Step �
 Ahead unit scale l base found i Done = Nothing scale (highAt (high unit) l i) 1024 base found
 Ahead unit scale l base found i (Slab′ place rank) = Slice unit scale l base i place rank
 
+abbrev pub Behind : ℕ → Scale → List ℕ → ℕ → ℕ → ℕ → Step → Type 0
+Behind unit scale l base found i Done = (i ≡ 0) ⊎ Nothing scale 0 (highAt (high unit) l i) base found
+Behind unit scale l base found i (Slab′ place rank) = Slice unit scale l base place i rank
+
+-- a cut of which everything before it lies at codes, and the section there
+pub record Begun (unit : ℕ) (l room : List ℕ) (place count : ℕ) : Type 0 where
+  pub cut : Cut (high unit) l place
+  pub inside : 0 < place → high unit (getD l (place - 1) 0) < 1024
+  pub section : Section (rest unit) (take place l) (take count room)
+  pub fits : count ≤ length room
+
 -- ---- the rank of a cell
 
 -- the distance, then focus, first shift and second shift, as one number
@@ -180,6 +194,18 @@ pub record Ranked (ns : List ℤ) (w : Cell) (r : ℕ) : Type 0 where
   pub member : permitted (vertices ns) (cell (number focus) (number first) (number second)) ≡ true
   pub is : r ≡ rankOf w focus first second
   pub least : (a b d : ℕ) → (a < 1024) × (b < 1024) × (d < 1024) → permitted (vertices ns) (cell (number a) (number b) (number d)) ≡ true → r ≤ rankOf w a b d
+
+-- the part of a key on an axis: focus 0, first shift 1, second shift 2
+abbrev pub partOn : ℕ → ℕ → ℕ
+partOn zero k = k / 2099200
+partOn (suc zero) k = k % 2099200 / 2048
+partOn (suc (suc n)) k = k % 2099200 % 2048
+
+-- every part on an axis lies from low to high
+pub record Extends (axis : ℕ) (keys : List ℕ) (r : Extent) : Type 0 where
+  pub low : (i : ℕ) → i < length keys → r .low ≤ partOn axis (getD keys i 0)
+  pub high : (i : ℕ) → i < length keys → partOn axis (getD keys i 0) ≤ r .high
+  pub end : r .high ≤ 1024
 
 -- the scale of an axis whose cells lie from low to below high: every cell lies beyond the scale's code as seen from the wish
 pub record Brought (wish low high′ weight place : ℕ) (r : Scale) : Type 0 where

@@ -13,6 +13,7 @@ use meaning::Verdict;
 use search::END;
 use values::DISTANCE;
 
+mod extents;
 mod search;
 mod values;
 
@@ -58,20 +59,26 @@ fn rank_with_room(
     first: u32,
     second: u32,
     keys: &mut [u32],
-    room: &mut [u32],
+    below: &mut [u32],
+    above: &mut [u32],
     line: &mut [u32],
+    spare: &mut [u32],
     other: &mut [u32],
 ) -> u64
     requires { ⌜ Valid (vertices (now list)) × (0 < length (vertices (now list))) ⌝ }
     requires { ⌜ (focus < 65536) × (first < 65536) × (second < 65536) ⌝ }
-    requires { ⌜ (length (vertices (now list)) ≤ length (now keys)) × (length (vertices (now list)) ≤ length (now room)) × (length (vertices (now list)) ≤ length (now line)) × (length (vertices (now list)) + length (vertices (now list)) ≤ length (now other)) ⌝ }
+    requires { ⌜ (length (vertices (now list)) ≤ length (now keys)) × (length (vertices (now list)) ≤ length (now below)) × (length (vertices (now list)) ≤ length (now above)) × (length (vertices (now list)) ≤ length (now line)) × (length (vertices (now list)) ≤ length (now spare)) × (length (vertices (now list)) + length (vertices (now list)) ≤ length (now other)) ⌝ }
     ensures { λ r. ⌜ Ranked (now (list .entry)) (cell (lowered focus) (lowered first) (lowered second)) r × (r < 2 ^ 62) ⌝ }
 {
     let n = keys::read(list, keys);
-    let a = values::bring(focus, 0, END, FOCUS_WEIGHT, FOCUS_PLACE);
-    let b = values::bring(first, 0, END, SHIFT_WEIGHT, FIRST_PLACE);
-    let d = values::bring(second, 0, END, SHIFT_WEIGHT, SECOND_PLACE);
-    let rank = search::planes(&keys[..n], a, b, d, NONE, room, line, other);
+    let front = &keys[..n];
+    let x = extents::extend(front, extents::FOCUS);
+    let y = extents::extend(front, extents::FIRST);
+    let z = extents::extend(front, extents::SECOND);
+    let a = values::bring(focus, x.low, x.high, FOCUS_WEIGHT, FOCUS_PLACE);
+    let b = values::bring(first, y.low, y.high, SHIFT_WEIGHT, FIRST_PLACE);
+    let d = values::bring(second, z.low, z.high, SHIFT_WEIGHT, SECOND_PLACE);
+    let rank = search::planes(front, a, b, d, NONE, below, above, line, spare, other);
     let beyond = values::beyond(focus, a) + values::beyond(first, b) + values::beyond(second, d);
     rank + beyond * DISTANCE
 }
@@ -84,8 +91,10 @@ fn rank_of_few(list: &[i16], focus: u32, first: u32, second: u32) -> u64
     ensures { λ r. ⌜ Ranked (now (list .entry)) (cell (lowered focus) (lowered first) (lowered second)) r × (r < 2 ^ 62) ⌝ }
 {
     let mut keys = [0u32; SMALL];
-    let mut room = [0u32; SMALL];
+    let mut below = [0u32; SMALL];
+    let mut above = [0u32; SMALL];
     let mut line = [0u32; SMALL];
+    let mut spare = [0u32; SMALL];
     let mut other = [0u32; TWICE_SMALL];
     rank_with_room(
         list,
@@ -93,8 +102,10 @@ fn rank_of_few(list: &[i16], focus: u32, first: u32, second: u32) -> u64
         first,
         second,
         &mut keys,
-        &mut room,
+        &mut below,
+        &mut above,
         &mut line,
+        &mut spare,
         &mut other,
     )
 }
@@ -106,8 +117,10 @@ fn rank_of_many(list: &[i16], focus: u32, first: u32, second: u32) -> u64
     ensures { λ r. ⌜ Ranked (now (list .entry)) (cell (lowered focus) (lowered first) (lowered second)) r × (r < 2 ^ 62) ⌝ }
 {
     let mut keys = [0u32; MOST_VERTICES];
-    let mut room = [0u32; MOST_VERTICES];
+    let mut below = [0u32; MOST_VERTICES];
+    let mut above = [0u32; MOST_VERTICES];
     let mut line = [0u32; MOST_VERTICES];
+    let mut spare = [0u32; MOST_VERTICES];
     let mut other = [0u32; TWICE_MOST];
     rank_with_room(
         list,
@@ -115,8 +128,10 @@ fn rank_of_many(list: &[i16], focus: u32, first: u32, second: u32) -> u64
         first,
         second,
         &mut keys,
-        &mut room,
+        &mut below,
+        &mut above,
         &mut line,
+        &mut spare,
         &mut other,
     )
 }

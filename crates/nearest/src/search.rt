@@ -6,7 +6,7 @@ ghost use mathlib.Core.Logic.{_⊎_};
 ghost use Prim.Native.Nat.{_+_, _-_, _*_, _<_, _≤_, _^_};
 ghost use lib.ListN.{length, getD, take, drop};
 ghost use Rattle.rising.specs.Merged.{From, merged, lessBase};
-ghost use Rattle.nearest.specs.Search.{value, Sound, Least, Best, Rank, Between, Ahead, lineIn, sectionIn, mapIn, high, rest, highAt, Cut, Run, Section};
+ghost use Rattle.nearest.specs.Search.{value, Sound, Least, Best, Rank, Between, Ahead, Behind, Begun, lineIn, sectionIn, mapIn, high, rest, highAt, Cut, Run, Section};
 use crate::values::Scale;
 use crate::values::least;
 use codes::LINE;
@@ -24,6 +24,12 @@ pub enum Step {
     Done,
     // A slab: the place behind it, and the least rank of its codes.
     Slab(usize, u64),
+}
+
+// Where the sweeps of an axis begin: a place, and how many numbers the section there is.
+pub struct Beginning {
+    pub place: usize,
+    pub count: usize,
 }
 
 // The high part of the number at place i, or the end.
@@ -56,6 +62,44 @@ fn run_end(list: &[u32], i: usize, unit: u32) -> usize
     e
 }
 
+// Where the run of numbers with the high part of the one before place i begins.
+fn run_start(list: &[u32], i: usize, unit: u32) -> usize
+    requires { ⌜ 0 < unit ⌝ }
+    requires { ⌜ From 0 (now list) ⌝ }
+    requires { ⌜ (0 < i) × (i ≤ length (now list)) ⌝ }
+    ensures { λ r. ⌜ Run (high unit) (now (list .entry)) r i × Cut (high unit) (now (list .entry)) r ⌝ }
+{
+    let base = list[i - 1] / unit * unit;
+    let mut j = i - 1;
+    while 0 < j {
+        if list[j - 1] < base {
+            return j;
+        }
+        j -= 1;
+    }
+    j
+}
+
+// How many numbers have a high part of at most a code.
+fn upto(list: &[u32], code: u32, unit: u32) -> usize
+    requires { ⌜ (0 < unit) × (unit ≤ 2099200) × (code < 1024) ⌝ }
+    requires { ⌜ From 0 (now list) ⌝ }
+    ensures { λ r. ⌜ Cut (high unit) (now (list .entry)) r × (0 < r → high unit (getD (now (list .entry)) (r - 1) 0) < 1024) ⌝ }
+{
+    let bound = (code + 1) * unit;
+    let mut start = 0;
+    let mut end = list.len();
+    while start < end {
+        let middle = start + (end - start) / 2;
+        if list[middle] < bound {
+            start = middle + 1;
+        } else {
+            end = middle;
+        }
+    }
+    start
+}
+
 // Crosses the run from i to below e: turns the section before it into the one behind it, or back. The section is the first m numbers of
 // room; the answer is how many it is then.
 fn cross(
@@ -78,6 +122,43 @@ fn cross(
     let n = rising::merge(&room[..m], &list[i..e], base, other);
     rising::put(&other[..n], 0, room);
     n
+}
+
+// The section of a list: writes it to the front of room, and answers how many numbers it is.
+fn gather(list: &[u32], unit: u32, room: &mut [u32], other: &mut [u32]) -> usize
+    requires { ⌜ 0 < unit ⌝ }
+    requires { ⌜ From 0 (now list) ⌝ }
+    requires { ⌜ (length (now list) ≤ length (now room)) × (length (now list) + length (now list) ≤ length (now other)) ⌝ }
+    ensures { λ r. ⌜ Section (rest unit) (now (list .entry)) (take r (now (room .exit))) × (r ≤ length (now (list .entry))) ⌝ }
+{
+    let mut i = 0;
+    let mut m = 0;
+    while i < list.len() {
+        let e = run_end(list, i, unit);
+        m = cross(list, i, e, unit, m, room, other);
+        i = e;
+    }
+    m
+}
+
+// Where the sweeps of an axis begin for a wish's code: behind all that lies up to it, with the section there twice.
+fn begin(
+    list: &[u32],
+    code: u32,
+    unit: u32,
+    room: &mut [u32],
+    spare: &mut [u32],
+    other: &mut [u32],
+) -> Beginning
+    requires { ⌜ (0 < unit) × (unit ≤ 2099200) × (code < 1024) ⌝ }
+    requires { ⌜ From 0 (now list) ⌝ }
+    requires { ⌜ (length (now list) ≤ length (now room)) × (length (now list) ≤ length (now spare)) × (length (now list) + length (now list) ≤ length (now other)) ⌝ }
+    ensures { λ r. ⌜ Begun unit (now (list .entry)) (now (room .exit)) (r .place) (r .count) × Begun unit (now (list .entry)) (now (spare .exit)) (r .place) (r .count) ⌝ }
+{
+    let place = upto(list, code, unit);
+    let count = gather(&list[..place], unit, room, other);
+    rising::put(&room[..count], 0, spare);
+    Beginning { place, count }
 }
 
 // The least of best and the ranks, from a base up, of the cells of a line: of each stretch the code nearest to the wish.
@@ -129,6 +210,26 @@ fn ahead(list: &[u32], scale: Scale, unit: u32, base: u64, found: u64, i: usize)
     Step::Slab(place, base + least(scale, low, high_at(list, place, unit)))
 }
 
+// The slab of an axis below place i, unless nothing from there down is better than found.
+fn behind(list: &[u32], scale: Scale, unit: u32, base: u64, found: u64, i: usize) -> Step
+    requires { ⌜ 0 < unit ⌝ }
+    requires { ⌜ From 0 (now list) ⌝ }
+    requires { ⌜ Sound scale ⌝ }
+    requires { ⌜ base < 2 ^ 50 ⌝ }
+    requires { ⌜ Cut (high unit) (now list) i × (0 < i → high unit (getD (now list) (i - 1) 0) < 1024) ⌝ }
+    ensures { λ r. ⌜ Behind unit scale (now (list .entry)) base found i r ⌝ }
+{
+    if i == 0 {
+        return Step::Done;
+    }
+    let low = list[i - 1] / unit;
+    let high = high_at(list, i, unit);
+    if found <= base + least(scale, 0, high) {
+        return Step::Done;
+    }
+    Step::Slab(run_start(list, i, unit), base + least(scale, low, high))
+}
+
 // The same of the cells of a section, from the line at place start up. The first count numbers of room are the cells' line just below it.
 fn strips_up(
     section: &[u32],
@@ -144,8 +245,8 @@ fn strips_up(
     requires { ⌜ From 0 (now section) ⌝ }
     requires { ⌜ Sound first × Sound second ⌝ }
     requires { ⌜ base < 2 ^ 50 ⌝ }
-    requires { ⌜ Cut (high 2048) (now section) start × Section (rest 2048) (take start (now section)) (take count (now room)) ⌝ }
-    requires { ⌜ (count ≤ length (now room)) × (length (now section) ≤ length (now room)) × (length (now section) + length (now section) ≤ length (now other)) ⌝ }
+    requires { ⌜ Begun 2048 (now section) (now room) start count ⌝ }
+    requires { ⌜ (length (now section) ≤ length (now room)) × (length (now section) + length (now section) ≤ length (now other)) ⌝ }
     ensures { λ r. ⌜ Best (Between 2048 first (lineIn second) (now (section .entry)) (highAt (high 2048) (now (section .entry)) start) 1024 base) best r ⌝ }
 {
     let mut found = best;
@@ -161,7 +262,39 @@ fn strips_up(
     }
 }
 
-// The same of all cells of a section; line is room for a line.
+// The same of the cells of a section below the line at place start.
+fn strips_down(
+    section: &[u32],
+    first: Scale,
+    second: Scale,
+    base: u64,
+    best: u64,
+    start: usize,
+    count: usize,
+    room: &mut [u32],
+    other: &mut [u32],
+) -> u64
+    requires { ⌜ From 0 (now section) ⌝ }
+    requires { ⌜ Sound first × Sound second ⌝ }
+    requires { ⌜ base < 2 ^ 50 ⌝ }
+    requires { ⌜ Begun 2048 (now section) (now room) start count ⌝ }
+    requires { ⌜ (length (now section) ≤ length (now room)) × (length (now section) + length (now section) ≤ length (now other)) ⌝ }
+    ensures { λ r. ⌜ Best (Between 2048 first (lineIn second) (now (section .entry)) 0 (highAt (high 2048) (now (section .entry)) start) base) best r ⌝ }
+{
+    let mut found = best;
+    let mut i = start;
+    let mut m = count;
+    loop {
+        let Step::Slab(place, rank) = behind(section, first, LINE, base, found, i) else {
+            return found;
+        };
+        found = intervals(&room[..m], second, rank, found);
+        m = cross(section, place, i, LINE, m, room, other);
+        i = place;
+    }
+}
+
+// The same of all cells of a section; line and spare are room for a line each.
 fn strips(
     section: &[u32],
     first: Scale,
@@ -169,18 +302,43 @@ fn strips(
     base: u64,
     best: u64,
     line: &mut [u32],
+    spare: &mut [u32],
     other: &mut [u32],
 ) -> u64
     requires { ⌜ From 0 (now section) ⌝ }
     requires { ⌜ Sound first × Sound second ⌝ }
     requires { ⌜ base < 2 ^ 50 ⌝ }
-    requires { ⌜ (length (now section) ≤ length (now line)) × (length (now section) + length (now section) ≤ length (now other)) ⌝ }
+    requires { ⌜ (length (now section) ≤ length (now line)) × (length (now section) ≤ length (now spare)) × (length (now section) + length (now section) ≤ length (now other)) ⌝ }
     ensures { λ r. ⌜ Best (Rank (sectionIn first second) (now (section .entry)) base) best r ⌝ }
 {
     if best <= base {
         return best;
     }
-    strips_up(section, first, second, base, best, 0, 0, line, other)
+    let begun = begin(section, first.wish, LINE, line, spare, other);
+    let place = begun.place;
+    let count = begun.count;
+    let found = strips_down(
+        section,
+        first,
+        second,
+        base,
+        best,
+        place,
+        count,
+        line,
+        other,
+    );
+    strips_up(
+        section,
+        first,
+        second,
+        base,
+        found,
+        place,
+        count,
+        spare,
+        other,
+    )
 }
 
 // The same of the cells of a map, from the plane at place start up. The first count numbers of room are the section just below it.
@@ -194,12 +352,13 @@ fn planes_up(
     count: usize,
     room: &mut [u32],
     line: &mut [u32],
+    spare: &mut [u32],
     other: &mut [u32],
 ) -> u64
     requires { ⌜ From 0 (now keys) ⌝ }
     requires { ⌜ Sound focus × Sound first × Sound second ⌝ }
-    requires { ⌜ Cut (high 2099200) (now keys) start × Section (rest 2099200) (take start (now keys)) (take count (now room)) ⌝ }
-    requires { ⌜ (count ≤ length (now room)) × (length (now keys) ≤ length (now room)) × (length (now keys) ≤ length (now line)) × (length (now keys) + length (now keys) ≤ length (now other)) ⌝ }
+    requires { ⌜ Begun 2099200 (now keys) (now room) start count ⌝ }
+    requires { ⌜ (length (now keys) ≤ length (now room)) × (length (now keys) ≤ length (now line)) × (length (now keys) ≤ length (now spare)) × (length (now keys) + length (now keys) ≤ length (now other)) ⌝ }
     ensures { λ r. ⌜ Best (Between 2099200 focus (sectionIn first second) (now (keys .entry)) (highAt (high 2099200) (now (keys .entry)) start) 1024 0) best r ⌝ }
 {
     let mut found = best;
@@ -210,26 +369,89 @@ fn planes_up(
             return found;
         };
         m = cross(keys, i, place, PLANE, m, room, other);
-        found = strips(&room[..m], first, second, rank, found, line, other);
+        found = strips(&room[..m], first, second, rank, found, line, spare, other);
         i = place;
     }
 }
 
-// The same of all cells of a map; room and line are room for a section and a line.
+// The same of the cells of a map below the plane at place start.
+fn planes_down(
+    keys: &[u32],
+    focus: Scale,
+    first: Scale,
+    second: Scale,
+    best: u64,
+    start: usize,
+    count: usize,
+    room: &mut [u32],
+    line: &mut [u32],
+    spare: &mut [u32],
+    other: &mut [u32],
+) -> u64
+    requires { ⌜ From 0 (now keys) ⌝ }
+    requires { ⌜ Sound focus × Sound first × Sound second ⌝ }
+    requires { ⌜ Begun 2099200 (now keys) (now room) start count ⌝ }
+    requires { ⌜ (length (now keys) ≤ length (now room)) × (length (now keys) ≤ length (now line)) × (length (now keys) ≤ length (now spare)) × (length (now keys) + length (now keys) ≤ length (now other)) ⌝ }
+    ensures { λ r. ⌜ Best (Between 2099200 focus (sectionIn first second) (now (keys .entry)) 0 (highAt (high 2099200) (now (keys .entry)) start) 0) best r ⌝ }
+{
+    let mut found = best;
+    let mut i = start;
+    let mut m = count;
+    loop {
+        let Step::Slab(place, rank) = behind(keys, focus, PLANE, 0, found, i) else {
+            return found;
+        };
+        found = strips(&room[..m], first, second, rank, found, line, spare, other);
+        m = cross(keys, place, i, PLANE, m, room, other);
+        i = place;
+    }
+}
+
+// The same of all cells of a map; below and above are room for a section each, line and spare for a line each.
 pub fn planes(
     keys: &[u32],
     focus: Scale,
     first: Scale,
     second: Scale,
     best: u64,
-    room: &mut [u32],
+    below: &mut [u32],
+    above: &mut [u32],
     line: &mut [u32],
+    spare: &mut [u32],
     other: &mut [u32],
 ) -> u64
     requires { ⌜ From 0 (now keys) ⌝ }
     requires { ⌜ Sound focus × Sound first × Sound second ⌝ }
-    requires { ⌜ (length (now keys) ≤ length (now room)) × (length (now keys) ≤ length (now line)) × (length (now keys) + length (now keys) ≤ length (now other)) ⌝ }
+    requires { ⌜ (length (now keys) ≤ length (now below)) × (length (now keys) ≤ length (now above)) × (length (now keys) ≤ length (now line)) × (length (now keys) ≤ length (now spare)) × (length (now keys) + length (now keys) ≤ length (now other)) ⌝ }
     ensures { λ r. ⌜ Best (Rank (mapIn focus first second) (now (keys .entry)) 0) best r ⌝ }
 {
-    planes_up(keys, focus, first, second, best, 0, 0, room, line, other)
+    let begun = begin(keys, focus.wish, PLANE, below, above, other);
+    let place = begun.place;
+    let count = begun.count;
+    let found = planes_down(
+        keys,
+        focus,
+        first,
+        second,
+        best,
+        place,
+        count,
+        below,
+        line,
+        spare,
+        other,
+    );
+    planes_up(
+        keys,
+        focus,
+        first,
+        second,
+        found,
+        place,
+        count,
+        above,
+        line,
+        spare,
+        other,
+    )
 }

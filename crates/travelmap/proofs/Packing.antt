@@ -5,20 +5,27 @@
 --   cell-place, corner-place, corner-eight, ends-few    bounds on what the queries answer
 --   part-empty, part-some                    the packed part
 --   back-one, back-three, box-packed         a signed number that is passed on comes back from its bits
---   check-settled, cell-settled, corner-settled, plane-settled, box-settled    any two outcomes that a promise allows are equal
+--   join-few                                 bounds on the place and the count of a join
+--   bits-lifted                              the 16 bits of a number, from its lift
+--   wish-back                                the wish that is passed on comes back
+--   found-few                                the place that nearest names is that of a vertex of a list that is not too long
+--   check-settled, cell-settled, corner-settled, plane-settled, box-settled, join-settled, nearest-settled, distance-settled    any two outcomes that a promise allows are equal
 use mathlib.Core.Path.{_≡_, refl, sym, _∙_, ap, subst}
-use mathlib.Core.Bool.{Bool, true, false, cond}
+use mathlib.Core.Bool.{Bool, true, false, cond, _&&_}
 use mathlib.Core.List.{List}
+use mathlib.Core.Option.{Option, none, some}
 use Prim.Native.Nat.{ℕ, _+_, _*_, _-_, _/_, _%_, _^_, _≤_, _<_}
 use native.Mathlib.Omega.{arith}
-use borrow.Author.Tests.{ltb-true, ltb-false, eq-eqb, ne-eqb}
-use lib.Dec.{ltb, eqb}
-use lib.IntN.{ℤ}
+use borrow.Author.Tests.{ltb-true, ltb-false, leb-true, eq-eqb, ne-eqb}
+use lib.Dec.{ltb, leb, eqb}
+use lib.IntN.{ℤ, pos, negsuc}
 use lib.ListN.{length}
 use mir.Syntax.{w16}
 use mir.Val.{SFits, toZ, ofZ}
 use mir.ValLaws.{toZ-ofZ}
-use Rattle.meaning.specs.Numbers.{Cell, Corner}
+use Rattle.meaning.specs.Numbers.{Cell, Corner, cell}
+use Rattle.meaning.specs.Operations.{Operation, operation}
+use Rattle.meaning.proofs.Integers.{and-left}
 use Rattle.meaning.specs.Counting.{count, first}
 use Rattle.meaning.specs.Lists.{vertices, permitted, surrounding, howMany, mostVertices}
 use Rattle.meaning.specs.Verdicts.{outsideAt, fallsAt, onOddLineAt, unlessAt, verdictOf, verdict, refusalNumber, refusalPlace}
@@ -32,7 +39,15 @@ use Rattle.asks.specs.declared.CornerAnswer.{CornerAnswer}
 use Rattle.asks.specs.declared.Ends.{Ends}
 use Rattle.asks.proofs.Planes.{count-le}
 use Rattle.asks.proofs.Answers.{passes-map, ends-within}
-use Rattle.travelmap.specs.Packed.{packed, packedRefusal, packedVerdict, packedPart, packedValues, threeAxes, CheckPacked, CellPacked, CornerPacked, PlanePacked, BoxPacked}
+use Rattle.joins.specs.Join.{joinedList, fitsIn, madeAnswer, answerBy, JoinMade, joinValues}
+use Rattle.joins.specs.declared.Joining.{Joining}
+use Rattle.joins.specs.declared.Joining.the-variants.{Done, FirstRefused, SecondRefused, NoRoom}
+use Rattle.codes.specs.Lift.{lifted}
+use Rattle.nearest.specs.Answer.{outcome, Answered}
+use Rattle.nearest.specs.declared.Found.{Found}
+use Rattle.nearest.specs.declared.Found.the-variants.{At, Empty, Refused}
+use Rattle.nearest.proofs.Answers.{settled}
+use Rattle.travelmap.specs.Packed.{packed, packedRefusal, packedVerdict, packedPart, packedValues, threeAxes, CheckPacked, CellPacked, CornerPacked, PlanePacked, BoxPacked, JoinPacked, twosComplement, packedNearest, packedDistance, NearestPacked, DistancePacked}
 
 -- ---- back again
 
@@ -165,6 +180,50 @@ module _ (a a′ b b′ d d′ : ℤ) (p : SFits w16 a) (p′ : SFits w16 a′) 
   box-packed out after made r m e =
       subst (λ ends. (r ≡ packedValues (boxValues ends (length out))) × (after ≡ boxContents ends out)) back-ends (e ∙ ap packedValues (m .0), m .1)
 
+-- ---- the join
+
+-- the place and the count are those of a list that is not too long
+abbrev Few : Joining → Type 0
+Few r = (joinValues r .place ≤ mostVertices) × (joinValues r .count ≤ mostVertices)
+
+made-few : (l : List Corner) (room : ℕ) → Few (madeAnswer l room)
+made-few l room = go (fitsIn l room) refl
+  where
+    go : (t : Bool) → fitsIn l room ≡ t → Few (cond t (Done (length l)) NoRoom)
+    go true e = (omega arith, leb-true (length l) mostVertices (and-left (leb (length l) mostVertices) (leb (3 * length l) room) e))
+    go false e = (omega arith, omega arith)
+
+answer-few : (op : Option Operation) (a b : List ℤ) (room : ℕ) → Few (answerBy op a b room)
+answer-few none a b room = (omega arith, omega arith)
+answer-few (some o) a b room = first-list (passes (verdict a))
+  where
+    second-list : (t : Bool) → Few (cond t (madeAnswer (joinedList o a b) room) (SecondRefused (verdict b)))
+    second-list true = made-few (joinedList o a b) room
+    second-list false = (place-few b, omega arith)
+
+    first-list : (t : Bool) → Few (cond t (cond (passes (verdict b)) (madeAnswer (joinedList o a b) room) (SecondRefused (verdict b))) (FirstRefused (verdict a)))
+    first-list true = second-list (passes (verdict b))
+    first-list false = (place-few a, omega arith)
+
+pub join-few : (op : ℕ) (a b before : List ℤ) (r : Joining) (after : List ℤ) → JoinMade op a b before r after
+    → (joinValues r .place ≤ mostVertices) × (joinValues r .count ≤ mostVertices)
+join-few op a b before r after h = subst Few (sym (h .answer)) (answer-few (operation op) a b (length before))
+
+-- ---- nearest
+
+pub bits-lifted : (z : ℤ) → SFits w16 z → (lifted z + 32768) % 65536 ≡ twosComplement z
+bits-lifted (pos n) f = omega (arith, f .sfits)
+bits-lifted (negsuc n) f = omega (arith, f .sfits)
+
+pub wish-back : (ns : List ℤ) (f : Found) (x y z : ℤ) → SFits w16 x → SFits w16 y → SFits w16 z → Answered ns (cell (back x) (back y) (back z)) f
+    → Answered ns (cell x y z) f
+wish-back ns f x y z p q r h = subst (λ (w : Cell). Answered ns w f) (back-three cell x y z p q r) h
+
+pub found-few : (ns : List ℤ) (w : Cell) (f : Found) → Answered ns w f → outcome f .place ≤ mostVertices
+found-few ns w (At a b d n) h = omega arith
+found-few ns w Empty h = omega arith
+found-few ns w (Refused v) h = subst (λ u. refusalPlace u ≤ mostVertices) (h .0) (place-few ns)
+
 -- ---- each promise settles its answer, and the contents at exit
 
 pub check-settled : (ns : List ℤ) (r s : ℕ) → CheckPacked ns r → CheckPacked ns s → r ≡ s
@@ -183,3 +242,15 @@ pub box-settled : (ends : List (List ℤ)) (before : List ℤ) (r s : ℕ) (afte
     → (r ≡ s) × (after ≡ last)
 unfolding BoxPacked
 box-settled ends before r s after last p q = (p .0 ∙ sym (q .0), p .1 ∙ sym (q .1))
+
+pub join-settled : (op : ℕ) (a b before : List ℤ) (r s : ℕ) (after last : List ℤ) → JoinPacked op a b before r after → JoinPacked op a b before s last
+    → (r ≡ s) × (after ≡ last)
+join-settled op a b before r s after last p q = (p .answer ∙ sym (q .answer), p .contents ∙ sym (q .contents))
+
+pub nearest-settled : (ns : List ℤ) (w : Cell) (r s : ℕ) → NearestPacked ns w r → NearestPacked ns w s → r ≡ s
+nearest-settled ns w r s p q =
+    p .answer ∙ ap (λ f. packedNearest (outcome f)) (settled ns w (p .found) (q .found) (p .allowed) (q .allowed)) ∙ sym (q .answer)
+
+pub distance-settled : (ns : List ℤ) (w : Cell) (r s : ℕ) → DistancePacked ns w r → DistancePacked ns w s → r ≡ s
+distance-settled ns w r s p q =
+    p .answer ∙ ap (λ f. packedDistance (outcome f)) (settled ns w (p .found) (q .found) (p .allowed) (q .allowed)) ∙ sym (q .answer)

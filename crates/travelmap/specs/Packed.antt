@@ -5,12 +5,15 @@
 --   packedCorner, CornerPacked        the corner report: mask in bits 0 to 7, how many in 8 to 15, kind in 16 to 23, beside the list's refusal
 --   packedPart, PlanePacked           the plane query: where the part starts in bits 32 to 63, its length in bits 0 to 31; 0 where it is empty
 --   threeAxes, packedValues, BoxPacked    the box: the values of its answer, and the contents at exit
+--   JoinPacked                        the join: the values of its answer, and the contents at exit
+--   twosComplement, packedNearest, NearestPacked    nearest: the number in bits 48 to 63, then the 16 bits of each code, focus highest
+--   packedDistance, DistancePacked    the distance to the nearest cell: the values of its answer, and the distance in bits 0 to 31
 use mathlib.Core.Path.{_≡_}
 use mathlib.Core.Bool.{cond}
 use mathlib.Core.List.{List, [], _∷_}
 use Prim.Native.Nat.{ℕ, _+_, _*_, _-_, _^_}
 use lib.Dec.{eqb}
-use lib.IntN.{ℤ}
+use lib.IntN.{ℤ, pos, negsuc}
 use lib.ListN.{length}
 use Rattle.meaning.specs.Numbers.{Cell, Corner}
 use Rattle.meaning.specs.Verdicts.{verdict, refusalNumber, refusalPlace}
@@ -20,6 +23,9 @@ use Rattle.asks.specs.Asks.{passes, cellValues, cellAnswer, cornerAnswer, plane
 use Rattle.asks.specs.declared.CellAnswer.{CellAnswer}
 use Rattle.asks.specs.declared.CornerAnswer.{CornerAnswer}
 use Rattle.asks.specs.declared.Ends.{Ends}
+use Rattle.joins.specs.Join.{joinValues, joinAnswer, joinContents}
+use Rattle.nearest.specs.Answer.{Outcome, outcome, Answered}
+use Rattle.nearest.specs.declared.Found.{Found}
 
 abbrev pub packed : ℕ → ℕ → ℕ → ℕ → ℕ → ℕ
 packed number operand place second count = number * 2 ^ 56 + operand * 2 ^ 48 + place * 2 ^ 32 + second * 2 ^ 16 + count
@@ -63,3 +69,29 @@ packedValues v = packed (v .number) (v .operand) (v .place) 0 (v .count)
 
 unfoldable pub BoxPacked : List (List ℤ) → List ℤ → ℕ → List ℤ → Type 0
 BoxPacked ends before r after = (r ≡ packedValues (boxValues ends (length before))) × (after ≡ boxContents ends before)
+
+pub record JoinPacked (op : ℕ) (a b before : List ℤ) (r : ℕ) (after : List ℤ) : Type 0 where
+  pub answer : r ≡ packedValues (joinValues (joinAnswer op a b (length before)))
+  pub contents : after ≡ joinContents op a b before
+
+-- the 16 bits of a signed number
+abbrev pub twosComplement : ℤ → ℕ
+twosComplement (pos n) = n
+twosComplement (negsuc n) = 65535 - n
+
+abbrev pub packedNearest : Outcome → ℕ
+packedNearest o = packed 0 (o .number) (twosComplement (o .at .focus)) (twosComplement (o .at .first)) (twosComplement (o .at .second))
+
+-- an answer that the promise of nearest allows is packed so; nearest allows one alone
+pub record NearestPacked (ns : List ℤ) (w : Cell) (r : ℕ) : Type 0 where
+  pub found : Found
+  pub allowed : Answered ns w found
+  pub answer : r ≡ packedNearest (outcome found)
+
+abbrev pub packedDistance : Outcome → ℕ
+packedDistance o = packed (o .number) (o .operand) (o .place) 0 0 + o .far
+
+pub record DistancePacked (ns : List ℤ) (w : Cell) (r : ℕ) : Type 0 where
+  pub found : Found
+  pub allowed : Answered ns w found
+  pub answer : r ≡ packedDistance (outcome found)

@@ -1,5 +1,5 @@
 // The functions that C and Rust call, on slices of numbers and numbers. Each answers one number that packs document 01's values. It relies on
-// `lists` and `asks` for the answers, and only packs them. include/travelmap.h declares the same functions for C.
+// `lists`, `asks`, `joins` and `nearest` for the answers, and only packs them. include/travelmap.h declares the same functions for C.
 ghost use mathlib.Core.Path.{_≡_};
 ghost use Prim.Native.Nat.{_≤_};
 ghost use Rattle.meaning.specs.Numbers.{cell, corner};
@@ -7,10 +7,14 @@ ghost use Rattle.meaning.specs.Lists.{mostVertices};
 ghost use Rattle.meaning.specs.Verdicts.{refusalNumber, refusalPlace};
 ghost use Rattle.lists.specs.Box.{valuesOf};
 ghost use Rattle.asks.specs.Asks.{cellValues};
-ghost use Rattle.travelmap.specs.Packed.{packed, packedRefusal, packedVerdict, packedCell, packedValues, threeAxes, CheckPacked, CellPacked, CornerPacked, PlanePacked, BoxPacked};
+ghost use Rattle.joins.specs.Join.{joinValues};
+ghost use Rattle.nearest.specs.Answer.{outcome};
+ghost use Rattle.travelmap.specs.Packed.{packed, packedRefusal, packedVerdict, packedCell, packedValues, threeAxes, CheckPacked, CellPacked, CornerPacked, PlanePacked, BoxPacked, JoinPacked, twosComplement, packedNearest, packedDistance, NearestPacked, DistancePacked};
 use asks::CellAnswer;
+use joins::Joining;
 use lists::Boxed;
 use meaning::Verdict;
+use nearest::Found;
 
 // What one of a value's units weighs in the packed number.
 const NUMBER: u64 = 72057594037927936;
@@ -28,16 +32,27 @@ const DONE: u8 = 0;
 
 const NO_ROOM: u8 = 6;
 
+const EMPTY: u8 = 7;
+
+const BAD_OPERATION: u8 = 8;
+
 const BAD_NUMBER: u8 = 9;
 
-// The operand that a refusal names where there is one list.
+// The operand that a refusal names: the first list, which is the one list where there is one, or the second.
 const ONE_LIST: u8 = 1;
+
+const SECOND_LIST: u8 = 2;
 
 // What the cell query answers for yes.
 const YES: u64 = 1;
 
 // The vertices of a box.
 const BOX_VERTICES: u16 = 8;
+
+// How far `codes` lifts a number, and how many numbers have 16 bits.
+const LIFT: u32 = 32768;
+
+const NUMBERS: u32 = 65536;
 
 // The values of an answer as one number.
 fn pack(number: u8, operand: u8, place: u16, second: u16, count: u16) -> u64
@@ -120,6 +135,52 @@ fn pack_box(answer: Boxed) -> u64
     }
 }
 
+// The answer of a join.
+fn pack_join(answer: Joining) -> u64
+    requires { ⌜ (joinValues answer .place ≤ mostVertices) × (joinValues answer .count ≤ mostVertices) ⌝ }
+    ensures { λ r. ⌜ r ≡ packedValues (joinValues answer) ⌝ }
+{
+    match answer {
+        Joining::Done(count) => pack(DONE, 0, 0, 0, count as u16),
+        Joining::BadOperation => pack(BAD_OPERATION, 0, 0, 0, 0),
+        Joining::FirstRefused(verdict) => pack_refusal(verdict, ONE_LIST),
+        Joining::SecondRefused(verdict) => pack_refusal(verdict, SECOND_LIST),
+        Joining::NoRoom => pack(NO_ROOM, 0, 0, 0, 0),
+    }
+}
+
+// A number's 16 bits in two's complement.
+fn bits_of(number: i16) -> u16
+    ensures { λ r. ⌜ r ≡ twosComplement number ⌝ }
+{
+    ((codes::lift(number) as u32 + LIFT) % NUMBERS) as u16
+}
+
+// The nearest cell: the number above its three codes.
+fn pack_nearest(found: Found) -> u64
+    ensures { λ r. ⌜ r ≡ packedNearest (outcome found) ⌝ }
+{
+    match found {
+        Found::At(focus, first, second, _) => {
+            pack(0, DONE, bits_of(focus), bits_of(first), bits_of(second))
+        }
+        Found::Empty => pack(0, EMPTY, 0, 0, 0),
+        Found::Refused(verdict) => pack(0, number_of(verdict), 0, 0, 0),
+    }
+}
+
+// The distance to the nearest cell.
+fn pack_distance(found: Found) -> u64
+    requires { ⌜ outcome found .place ≤ mostVertices ⌝ }
+    ensures { λ r. ⌜ r ≡ packedDistance (outcome found) ⌝ }
+{
+    match found {
+        Found::At(_, _, _, distance) => distance as u64,
+        Found::Empty => pack(EMPTY, 0, 0, 0, 0),
+        Found::Refused(verdict) => pack_refusal(verdict, ONE_LIST),
+    }
+}
+
 // Checks a list.
 #[no_mangle]
 pub extern "C" fn travelmap_check(list: &[i16]) -> u64
@@ -180,4 +241,33 @@ pub extern "C" fn travelmap_plane(list: &[i16], focus: i16) -> u64
         return 0;
     }
     start as u64 * PLACE + (end - start) as u64
+}
+
+// Joins two maps by operation 1 union, 2 overlap, 3 first without second or 4 exclusive or.
+#[no_mangle]
+pub extern "C" fn travelmap_join(op: u32, a: &[i16], b: &[i16], out: &mut [i16]) -> u64
+    ensures { λ r. ⌜ JoinPacked op (now (a .entry)) (now (b .entry)) (now (out .entry)) r (now (out .exit)) ⌝ }
+{
+    pack_join(joins::join(op, a, b, out))
+}
+
+// The permitted cell nearest to a wish.
+#[no_mangle]
+pub extern "C" fn travelmap_nearest(list: &[i16], focus: i16, first: i16, second: i16) -> u64
+    ensures { λ r. ⌜ NearestPacked (now (list .entry)) (cell focus first second) r ⌝ }
+{
+    pack_nearest(nearest::nearest(list, focus, first, second))
+}
+
+// The distance from a wish to the nearest permitted cell.
+#[no_mangle]
+pub extern "C" fn travelmap_nearest_distance(
+    list: &[i16],
+    focus: i16,
+    first: i16,
+    second: i16,
+) -> u64
+    ensures { λ r. ⌜ DistancePacked (now (list .entry)) (cell focus first second) r ⌝ }
+{
+    pack_distance(nearest::nearest(list, focus, first, second))
 }

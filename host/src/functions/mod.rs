@@ -48,13 +48,16 @@ macro_rules! function {
 }
 
 /// The functions that the library has. A function is added by its line.
-/// To come: section, split, join, nearest, nearest_distance.
+/// To come: section, split.
 pub const FUNCTIONS: &[Function] = &[
     function!("travelmap_check", check),
     function!("travelmap_box", make_box),
     function!("travelmap_cell", cell),
     function!("travelmap_corner", corner),
     function!("travelmap_plane", plane),
+    function!("travelmap_join", join),
+    function!("travelmap_nearest", nearest),
+    function!("travelmap_nearest_distance", nearest_distance),
 ];
 
 /// Compares a function of a list and three numbers; `number` reads the refusal in an answer.

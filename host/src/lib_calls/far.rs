@@ -182,19 +182,16 @@ pub fn split(list: &[i16], axis: u32, at: i16, low: &mut [i16], high: &mut [i16]
 }
 
 /// Joins two maps.
-#[allow(dead_code)]
 pub fn join(operation: u32, one: &[i16], other: &[i16], result: &mut [i16]) -> u64 {
     call(Far::Join, operation, &[], &[one, other], &mut [result])
 }
 
 /// The nearest permitted cell to a wish.
-#[allow(dead_code)]
 pub fn nearest(list: &[i16], wish: [i16; 3]) -> u64 {
     call(Far::Nearest, 0, &wish, &[list], &mut [])
 }
 
 /// The distance from a wish to the nearest permitted cell.
-#[allow(dead_code)]
 pub fn nearest_distance(list: &[i16], wish: [i16; 3]) -> u64 {
     call(Far::Distance, 0, &wish, &[list], &mut [])
 }

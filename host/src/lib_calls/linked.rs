@@ -107,7 +107,6 @@ pub fn split(list: &[i16], axis: u32, at: i16, low: &mut [i16], high: &mut [i16]
 }
 
 /// Joins two maps.
-#[allow(dead_code)]
 pub fn join(operation: u32, one: &[i16], other: &[i16], result: &mut [i16]) -> u64 {
     let (a, a_len, b, b_len) = (one.as_ptr(), one.len(), other.as_ptr(), other.len());
     unsafe {
@@ -124,13 +123,11 @@ pub fn join(operation: u32, one: &[i16], other: &[i16], result: &mut [i16]) -> u
 }
 
 /// The nearest permitted cell to a wish.
-#[allow(dead_code)]
 pub fn nearest(list: &[i16], wish: [i16; 3]) -> u64 {
     unsafe { travelmap_nearest(list.as_ptr(), list.len(), wish[0], wish[1], wish[2]) }
 }
 
 /// The distance from a wish to the nearest permitted cell.
-#[allow(dead_code)]
 pub fn nearest_distance(list: &[i16], wish: [i16; 3]) -> u64 {
     unsafe { travelmap_nearest_distance(list.as_ptr(), list.len(), wish[0], wish[1], wish[2]) }
 }

@@ -38,14 +38,14 @@ over c =
     subst (λ (r : Step). Ahead 2048 (s .args .first) (s .args .section .now) (s .args .base) (l .loop .found) (l .loop .i) r) (c .enum-told .given .1) (c .before .before .ahead .ensures)
 
 rooms : (l : tie.At-loop Inv-loop μ-loop) → (l .loop .m ≤ length (l .loop .room)) × (length (l .before .before .before .before .args .section .now) ≤ length (l .loop .room)) × (length (l .before .before .before .before .args .section .now) + length (l .before .before .before .before .args .section .now) ≤ length (l .loop .other))
-rooms l = let s = l .before .before .before .before in (l .loop .inv .0 .fits, omega (arith, l .loop .inv .1 .0, s .pre .1 .1 .1 .1 .1), omega (arith, l .loop .inv .1 .1, s .pre .1 .1 .1 .1 .2))
+rooms l = let s = l .before .before .before .before in (l .loop .inv .0 .fits, omega (arith, l .loop .inv .1 .0, s .pre .1 .1 .1 .1 .0), omega (arith, l .loop .inv .1 .1, s .pre .1 .1 .1 .1 .1))
 
 fits : (x : tie.After-cross Inv-loop μ-loop) → x .cross .result ≤ length (x .cross .last .1 .1 .1 .1 .1 .0)
 fits x = omega (arith, x .cross .ensures .0, x .cross .kept .1 .1 .1 .1 .1 .0, rooms (x .before .before .before .before .before .before .before) .1)
 
 -- src/search.rt:136:5
 loop-holds : tie.Need-loop-holds Inv-loop μ-loop
-loop-holds c = let s = c .before .before .before in (sweep-begins 2048 (omega arith) (s .args .first) (lineIn (s .args .second)) (s .args .section .now) (s .pre .0) (s .args .start) (s .args .base) (s .args .best) (s .args .room .now) (s .args .count) (s .pre .1 .1 .1 .1 .0) (s .pre .1 .1 .1 .0 .0) (s .pre .1 .1 .1 .0 .1), (refl, refl))
+loop-holds c = let s = c .before .before .before in (sweep-begins 2048 (omega arith) (s .args .first) (lineIn (s .args .second)) (s .args .section .now) (s .pre .0) (s .args .start) (s .args .base) (s .args .best) (s .args .room .now) (s .args .count) (s .pre .1 .1 .1 .0 .fits) (s .pre .1 .1 .1 .0 .cut) (s .pre .1 .1 .1 .0 .section), (refl, refl))
 
 -- src/search.rt:137:39
 ahead-requires : tie.Need-ahead-requires Inv-loop μ-loop

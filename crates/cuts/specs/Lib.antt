@@ -1,0 +1,3 @@
+-- What must be believed: the promises of section and split, and document 01's values for their answers. Axes: inner definitions.
+pub mod Answers
+pub mod Axes
