@@ -19,13 +19,18 @@ use Rattle.meaning.specs.Lists.{permitted, Valid}
 use Rattle.meaning.proofs.Parity.{sum, sum-ext}
 use Rattle.meaning.proofs.Maps.{valid-within}
 use Rattle.codes.specs.Keys.{keyOf}
-use Rattle.lists.proofs.Vertices.{all-at}
 use Rattle.keys.specs.Parts.{KeyOk, keyFits}
 use Rattle.keys.proofs.Corners.{keys-ok, permitted-corners}
 use Rattle.nearest.specs.Search.{partOn, Extends}
 use Rattle.nearest.specs.declared.extents.Extent.{Extent}
 use Rattle.nearest.proofs.Sweep.{sum-upto}
 use Rattle.nearest.proofs.Ranks.{cellAt, by-codes, within-codes, some-cell}
+
+-- what holds of every key holds of the one at a place
+all-at : (Q : ℕ → Type 0) (l : List ℕ) → All Q l → (i : ℕ) → i < length l → Q (getD l i 0)
+all-at Q [] h i k = absurd (omega arith)
+all-at Q (x ∷ l) h zero k = h .0
+all-at Q (x ∷ l) h (suc i) k = all-at Q l (h .1) i (omega arith)
 
 -- ---- the loop
 
@@ -147,7 +152,7 @@ module _ (l : List Corner) (valid : Valid l) (x y z : Extent)
 
 -- the parts of the keys of corners are at most 1024
 pub parts-ok : (l : List Corner) → Valid l → (axis i : ℕ) → i < length (map keyOf l) → partOn axis (getD (map keyOf l) i 0) ≤ 1024
-parts-ok l valid axis i h = part-ok axis (getD (map keyOf l) i 0) (all-at KeyOk 0 (map keyOf l) (keys-ok l (valid .corners)) i h)
+parts-ok l valid axis i h = part-ok axis (getD (map keyOf l) i 0) (all-at KeyOk (map keyOf l) (keys-ok l (valid .corners)) i h)
 
 -- a map that is not empty is wider than nothing on every axis
 pub some-extent : (l : List Corner) (valid : Valid l) → 0 < length l → (x y z : Extent) → Extends 0 (map keyOf l) x → Extends 1 (map keyOf l) y → Extends 2 (map keyOf l) z

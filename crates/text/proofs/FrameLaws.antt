@@ -1,0 +1,157 @@
+-- Laws of frames.
+--   value-..                 the value of a byte, by where it lies among the digits
+--   four-ill, four-whole     four digits of which one is none; four digits
+--   line-..                  a line at a place, by what is found there; where there is one, its bytes are there
+--   together-..              three numbers of which one is ill formed
+--   signed-low, signed-high, word-low, word-high    two's complement by the crossing of `codes`
+use mathlib.Core.Path.{_≡_, refl, sym, _∙_, ap}
+use mathlib.Core.Bool.{true, false}
+use mathlib.Core.List.{List}
+use Prim.Native.Nat.{ℕ, suc, _+_, _-_, _*_, _≤_, _<_}
+use native.Mathlib.Omega.{arith}
+use borrow.Author.Tests.{lt-ltb, le-ltb, lt-leb, le-leb, leb-true, eq-eqb, ne-eqb}
+use lib.Dec.{leb, eqb}
+use lib.IntN.{ℤ, pos, negsuc}
+use lib.ListN.{length}
+use mir.Syntax.{w16}
+use mir.Val.{SFits}
+use Rattle.codes.specs.Lift.{lifted, lowered}
+use Rattle.codes.proofs.Shift.{down-not, down-below}
+use Rattle.codes.proofs.Tests.{and-both}
+use Rattle.text.specs.declared.frames.One.{One}
+use Rattle.text.specs.declared.frames.One.the-variants.{Ill, Number}
+use Rattle.text.specs.declared.frames.Three.the-variants.{Ill as Ill³, Numbers}
+use Rattle.text.specs.Frames.{zero, lineEnd, byteAt, digitValue, fourOf, fourAt, lineAt, together, oneAt, threeAt, signed, word, digitOf}
+
+-- ---- digits
+
+module _ (b : ℕ) where
+  pub value-under : b < 48 → 16 ≡ digitValue b
+  value-under h = rw (lt-leb 48 b h, lt-leb 65 b (omega arith))
+
+  pub value-lower : 48 ≤ b → b ≤ 57 → b - 48 ≡ digitValue b
+  value-lower h k = rw (le-leb 48 b h, le-leb b 57 k)
+
+  pub value-between : 57 < b → b < 65 → 16 ≡ digitValue b
+  value-between h k = rw (le-leb 48 b (omega arith), lt-leb b 57 h, lt-leb 65 b k)
+
+  pub value-upper : 65 ≤ b → b ≤ 70 → b - 55 ≡ digitValue b
+  value-upper h k = rw (le-leb 48 b (omega arith), lt-leb b 57 (omega arith), le-leb 65 b h, le-leb b 70 k)
+
+  pub value-over : 70 < b → 16 ≡ digitValue b
+  value-over h = rw (le-leb 48 b (omega arith), lt-leb b 57 (omega arith), le-leb 65 b (omega arith), lt-leb b 70 h)
+
+-- ---- four digits
+
+module _ (s : List ℕ) (at a b c d : ℕ)
+    (ea : a ≡ digitValue (byteAt s at))
+    (eb : b ≡ digitValue (byteAt s (at + 1)))
+    (ec : c ≡ digitValue (byteAt s (at + 2)))
+    (ed : d ≡ digitValue (byteAt s (at + 3))) where
+  pub four-is : fourOf a b c d ≡ fourAt s at
+  unfolding fourAt
+  four-is = λ i. fourOf (ea i) (eb i) (ec i) (ed i)
+
+  pub four-ill₁ : 16 ≤ a → Ill ≡ fourAt s at
+  four-ill₁ h = rw (le-ltb a 16 h) at four-is
+
+  pub four-ill₂ : a < 16 → 16 ≤ b → Ill ≡ fourAt s at
+  four-ill₂ ha h = rw (lt-ltb a 16 ha, le-ltb b 16 h) at four-is
+
+  pub four-ill₃ : a < 16 → b < 16 → 16 ≤ c → Ill ≡ fourAt s at
+  four-ill₃ ha hb h = rw (lt-ltb a 16 ha, lt-ltb b 16 hb, le-ltb c 16 h) at four-is
+
+  pub four-ill₄ : a < 16 → b < 16 → c < 16 → 16 ≤ d → Ill ≡ fourAt s at
+  four-ill₄ ha hb hc h = rw (lt-ltb a 16 ha, lt-ltb b 16 hb, lt-ltb c 16 hc, le-ltb d 16 h) at four-is
+
+  pub four-whole : a < 16 → b < 16 → c < 16 → d < 16 → Number (((a * 16 + b) * 16 + c) * 16 + d) ≡ fourAt s at
+  four-whole ha hb hc h = rw (lt-ltb a 16 ha, lt-ltb b 16 hb, lt-ltb c 16 hc, lt-ltb d 16 h) at four-is
+
+-- ---- lines
+
+module _ (s : List ℕ) (tag digits at : ℕ) where
+  pub line-past : length s ≤ at → false ≡ lineAt s tag digits at
+  unfolding lineAt
+  line-past h = rw (lt-leb (at + digits + 3) (length s) (omega arith))
+
+  pub line-short : at < length s → length s - at < digits + 3 → false ≡ lineAt s tag digits at
+  unfolding lineAt
+  line-short h k = rw (lt-leb (at + digits + 3) (length s) (omega arith))
+
+  pub line-long : lineAt s tag digits at ≡ true → at + digits + 3 ≤ length s
+  unfolding lineAt
+  line-long e = leb-true (at + digits + 3) (length s) (and-both _ _ e .0)
+
+  module _ (within : at < length s) (long : digits + 3 ≤ length s - at) where
+    is-long : leb (at + digits + 3) (length s) ≡ true
+    is-long = le-leb (at + digits + 3) (length s) (omega arith)
+
+    pub line-no-zero : (byteAt s at ≡ zero → ⊥) → false ≡ lineAt s tag digits at
+    unfolding lineAt
+    line-no-zero h = rw (is-long, ne-eqb (byteAt s at) zero h)
+
+    pub line-other : byteAt s at ≡ zero → (byteAt s (at + 1) ≡ tag → ⊥) → false ≡ lineAt s tag digits at
+    unfolding lineAt
+    line-other h k = rw (is-long, eq-eqb (byteAt s at) zero h, ne-eqb (byteAt s (at + 1)) tag k)
+
+    pub line-ends : byteAt s at ≡ zero → byteAt s (at + 1) ≡ tag → eqb (byteAt s (at + 2 + digits)) lineEnd ≡ lineAt s tag digits at
+    unfolding lineAt
+    line-ends h k = rw (is-long, eq-eqb (byteAt s at) zero h, eq-eqb (byteAt s (at + 1)) tag k)
+
+-- ---- three numbers
+
+pub one-ill : (s : List ℕ) (tag at : ℕ) → lineAt s tag 4 at ≡ false → Ill ≡ oneAt s tag at
+one-ill s tag at e = rw e
+
+pub one-four : (s : List ℕ) (tag at : ℕ) → lineAt s tag 4 at ≡ true → fourAt s (at + 2) ≡ oneAt s tag at
+one-four s tag at e = rw e
+
+pub three-ill : (s : List ℕ) (tag at : ℕ) → lineAt s tag 12 at ≡ false → Ill³ ≡ threeAt s tag at
+three-ill s tag at e = rw e
+
+module _ (s : List ℕ) (tag at : ℕ) (line : lineAt s tag 12 at ≡ true) (o p q : One) where
+  three-is : o ≡ fourAt s (at + 2) → p ≡ fourAt s (at + 6) → q ≡ fourAt s (at + 10) → together o p q ≡ threeAt s tag at
+  three-is eo ep eq = (λ i. together (eo i) (ep i) (eq i)) ∙ rw line
+
+module _ (s : List ℕ) (tag at : ℕ) (line : lineAt s tag 12 at ≡ true) {o : One} (eo : o ≡ fourAt s (at + 2)) where
+  pub three-ill₁ : o ≡ Ill → Ill³ ≡ threeAt s tag at
+  three-ill₁ e = three-is s tag at line Ill (fourAt s (at + 6)) (fourAt s (at + 10)) (sym e ∙ eo) refl refl
+
+  module _ {a : ℕ} (ea : o ≡ Number a) {p : One} (ep : p ≡ fourAt s (at + 6)) where
+    pub three-ill₂ : p ≡ Ill → Ill³ ≡ threeAt s tag at
+    three-ill₂ e = three-is s tag at line (Number a) Ill (fourAt s (at + 10)) (sym ea ∙ eo) (sym e ∙ ep) refl
+
+    module _ {b : ℕ} (eb : p ≡ Number b) {q : One} (eq : q ≡ fourAt s (at + 10)) where
+      pub three-ill₃ : q ≡ Ill → Ill³ ≡ threeAt s tag at
+      three-ill₃ e = three-is s tag at line (Number a) (Number b) Ill (sym ea ∙ eo) (sym eb ∙ ep) (sym e ∙ eq)
+
+      pub three-whole : {c : ℕ} → q ≡ Number c → Numbers a b c ≡ threeAt s tag at
+      three-whole {c} e = three-is s tag at line (Number a) (Number b) (Number c) (sym ea ∙ eo) (sym eb ∙ ep) (sym e ∙ eq)
+
+-- ---- two's complement
+
+pub signed-low : (n : ℕ) → n < 32768 → lowered (n + 32768) ≡ signed n
+signed-low n h =
+    let back : n + 32768 - 32768 ≡ n = omega arith in
+    down-not (n + 32768) 32768 (omega arith) ∙ ap pos back ∙ rw (lt-ltb n 32768 h)
+
+pub signed-high : (n : ℕ) → 32768 ≤ n → n < 65536 → lowered (n - 32768) ≡ signed n
+signed-high n h k =
+    let back : 32768 - suc (n - 32768) ≡ 65536 - suc n = omega arith in
+    down-below (n - 32768) 32768 (omega arith) ∙ ap negsuc back ∙ sym (down-below n 65536 k) ∙ rw (le-ltb n 32768 h)
+
+pub word-low : (z : ℤ) → SFits w16 z → lifted z < 32768 → lifted z + 32768 ≡ word z
+word-low (pos n) f h = absurd (omega arith)
+word-low (negsuc n) f h = omega (arith, f .sfits)
+
+pub word-high : (z : ℤ) → SFits w16 z → 32768 ≤ lifted z → lifted z - 32768 ≡ word z
+word-high (pos n) f h = omega arith
+word-high (negsuc n) f h = absurd (omega arith)
+
+-- ---- the digit of four bits
+
+pub digit-low : (d : ℕ) → d < 10 → 48 + d ≡ digitOf d
+digit-low d h = rw (lt-ltb d 10 h)
+
+pub digit-high : (d : ℕ) → 10 ≤ d → 55 + d ≡ digitOf d
+digit-high d h = rw (le-ltb d 10 h)

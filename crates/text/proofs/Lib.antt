@@ -1,0 +1,9 @@
+-- Laws that the proofs of this crate cite.
+pub mod FrameLaws
+pub mod Runs
+pub mod Totals
+pub mod Order
+pub mod Lines
+pub mod Filling
+pub mod Settled
+pub mod Outcomes

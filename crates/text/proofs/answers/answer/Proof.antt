@@ -1,0 +1,111 @@
+-- `answers::answer` meets its contract: what nearest answers, as a line; a list that is valid is not refused.
+use mathlib.Core.Path.{_∙_, subst}
+use Prim.Native.Nat.{_+_, _*_}
+use borrow.Author.Needs.{needs}
+use denote.Ref.{now}
+use lib.IntN.{pos}
+use lib.ListN.{getD}
+use Rattle.meaning.specs.Numbers.{cell}
+use Rattle.lists.proofs.Ends.{read-back}
+use Rattle.nearest.specs.Answer.{Answered}
+use Rattle.text.specs.Program.{wishAt, cellLine}
+use Rattle.text.proofs.Lines.{answer-at, answer-empty, answer-refused}
+use Rattle.text.proofs.answers.answer.Statement.{statement}
+use Rattle.text.proofs.answers.answer.Tie as tie
+
+mul-at : tie.Need-mul-at
+mul-at c = search needs
+
+mul-nearest : tie.Need-mul-nearest
+mul-nearest c = search needs
+
+shared-slice-copy-out-nearest : tie.Need-shared-slice-copy-out-nearest
+shared-slice-copy-out-nearest c = search needs
+
+add-nearest : tie.Need-add-nearest
+add-nearest c = search needs
+
+mul-nearest-2 : tie.Need-mul-nearest-2
+mul-nearest-2 c = search needs
+
+shared-slice-copy-out-nearest-2 : tie.Need-shared-slice-copy-out-nearest-2
+shared-slice-copy-out-nearest-2 c = search needs
+
+add-nearest-2 : tie.Need-add-nearest-2
+add-nearest-2 c = search needs
+
+mul-nearest-3 : tie.Need-mul-nearest-3
+mul-nearest-3 c = search needs
+
+shared-slice-copy-out-nearest-3 : tie.Need-shared-slice-copy-out-nearest-3
+shared-slice-copy-out-nearest-3 c = search needs
+
+nearest-requires : tie.Need-nearest-requires
+nearest-requires c κs = search needs
+
+enum-known-focus : tie.Need-enum-known-focus
+enum-known-focus c = search needs
+
+cell-line-requires : tie.Need-cell-line-requires
+cell-line-requires c κs = search needs
+
+enum-told : tie.Need-enum-told
+enum-told c = search needs
+
+empty-line-requires : tie.Need-empty-line-requires
+empty-line-requires c κs = search needs
+
+enum-told-2 : tie.Need-enum-told-2
+enum-told-2 c = search needs
+
+empty-line-requires-2 : tie.Need-empty-line-requires-2
+empty-line-requires-2 c κs = search needs
+
+-- what nearest answers of wish i
+said : (c : tie.After-nearest) → let a = c .before .before .before .before .args in Answered (now (a .list)) (wishAt (now (a .wishes)) (a .i)) (c .nearest .result)
+said c =
+    let a = c .before .before .before .before .args in
+    let at = 3 * a .i in
+    let x = read-back (getD (now (a .wishes)) at (pos 0)) (c .before .before .before .nearest-arg .given) in
+    let y = read-back (getD (now (a .wishes)) (at + 1) (pos 0)) (c .before .before .nearest-arg2 .given) in
+    let z = read-back (getD (now (a .wishes)) (at + 2) (pos 0)) (c .before .nearest-arg3 .given) in
+    subst (λ w. Answered (now (a .list)) w (c .nearest .result)) (λ j. cell (x j) (y j) (z j)) (c .nearest .ensures)
+
+returns : tie.Need-returns
+returns c =
+    let k = c .before .known-told .given in
+    let f = c .before .before .focus .given .0 in
+    let x = read-back (f .0) (k .0 .1) in
+    let y = read-back (f .1 .0) (k .1 .0 .1) in
+    let z = read-back (f .1 .1 .0) (k .1 .1 .0 .1) in
+    answer-at _ _ _ _ _ _ _ (subst (Answered _ _) (c .before .before .focus .given .1) (said (c .before .before .before .before))) (c .cell-line .ensures ∙ λ j. cellLine (cell (x j) (y j) (z j)))
+
+returns-2 : tie.Need-returns-2
+returns-2 c = answer-empty _ _ _ (subst (Answered _ _) (c .before .enum-told .given .1) (said (c .before .before .before))) (c .empty-line .ensures)
+
+returns-3 : tie.Need-returns-3
+returns-3 c = answer-refused _ _ _ _ (c .before .before .before .before .before .before .before .pre .0) (subst (Answered _ _) (c .before .enum-told2 .given .1) (said (c .before .before .before)))
+
+pub answer-spec : {M : Type 1} → statement M
+answer-spec =
+    tie.close
+    (tie.spec
+    mul-at
+    mul-nearest
+    shared-slice-copy-out-nearest
+    add-nearest
+    mul-nearest-2
+    shared-slice-copy-out-nearest-2
+    add-nearest-2
+    mul-nearest-3
+    shared-slice-copy-out-nearest-3
+    nearest-requires
+    enum-known-focus
+    cell-line-requires
+    enum-told
+    empty-line-requires
+    enum-told-2
+    empty-line-requires-2
+    returns
+    returns-2
+    returns-3)

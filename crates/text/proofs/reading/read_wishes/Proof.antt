@@ -1,0 +1,91 @@
+-- `reading::read_wishes` meets its contract: no line; a line that is ill formed; or all of them.
+use mathlib.Core.Path.{_≡_, ap, _∙_}
+use Prim.Native.Nat.{ℕ, _+_, _-_, _/_, min}
+use native.Mathlib.Omega.{arith}
+use borrow.Author.Needs.{needs}
+use denote.Ref.{now}
+use lib.ListN.{length}
+use Rattle.meaning.specs.Counting.{first}
+use Rattle.text.specs.Reading.{wishTag, illAt, wishPlace, wishLines}
+use Rattle.text.proofs.Order.{wish-none, wish-ill, wish-all, wish-few}
+use Rattle.text.proofs.reading.read_wishes.Statement.{statement}
+use Rattle.text.proofs.reading.read_wishes.Tie as tie
+
+mul-start : tie.Need-mul-start
+mul-start c = search needs
+
+mul-start-2 : tie.Need-mul-start-2
+mul-start-2 c = search needs
+
+add-start : tie.Need-add-start
+add-start c = search needs
+
+returns : tie.Need-returns
+returns c = (wish-none _ _ (c .if1 .taken), omega arith)
+
+sub-due : tie.Need-sub-due
+sub-due c = search needs
+
+add-due : tie.Need-add-due
+add-due c = search needs
+
+sub-due-2 : tie.Need-sub-due-2
+sub-due-2 c = search needs
+
+lesser-requires : tie.Need-lesser-requires
+lesser-requires c κs = search needs
+
+frames-from-requires : tie.Need-frames-from-requires
+frames-from-requires c κs = search needs
+
+add-t14 : tie.Need-add-t14
+add-t14 c = search needs
+
+add-t15 : tie.Need-add-t15
+add-t15 c = search needs
+
+same-length : tie.Need-same-length
+same-length c = search needs
+
+-- how many lines there are
+abbrev due : tie.After-frames-from → ℕ
+due c = (length (now (c .before .before .before .before .before .args .s)) - wishPlace (c .before .before .before .before .before .args .n) + 15 - 1) / 15
+
+-- the first ill formed line of those that can be wishes
+found : (c : tie.After-frames-from) → c .frames-from .result ≡ first (illAt (now (c .before .before .before .before .before .args .s)) wishTag (wishPlace (c .before .before .before .before .before .args .n))) (min (due c) 256)
+found c = c .frames-from .ensures .0 ∙ ap (first _) (c .before .before .lesser .ensures)
+
+are-due : (c : tie.After-frames-from) → due c ≡ wishLines (now (c .before .before .before .before .before .args .s)) (c .before .before .before .before .before .args .n)
+are-due c = omega arith
+
+returns-2 : tie.Need-returns-2
+returns-2 c = (wish-ill _ _ (are-due (c .before .before)) (found (c .before .before)) (omega arith), tt)
+
+same-length-2 : tie.Need-same-length-2
+same-length-2 c = search needs
+
+returns-3 : tie.Need-returns-3
+returns-3 c = (
+  wish-all _ _ (are-due (c .before .before)) (found (c .before .before)) _ (c .if2 .left) (c .before .before .frames-from .ensures .1),
+  wish-few _ _ (are-due (c .before .before)) (found (c .before .before)) (c .if2 .left),
+)
+
+pub read-wishes-spec : {M : Type 1} → statement M
+read-wishes-spec =
+    tie.close
+    (tie.spec
+    mul-start
+    mul-start-2
+    add-start
+    returns
+    sub-due
+    add-due
+    sub-due-2
+    lesser-requires
+    frames-from-requires
+    add-t14
+    add-t15
+    same-length
+    returns-2
+    same-length-2
+    returns-3)

@@ -1,0 +1,88 @@
+-- `respond` meets its contract: too long; the refusal of the map's text; or what follows it.
+use mathlib.Core.Path.{_≡_, sym, _∙_, ap, subst}
+use Prim.Native.Nat.{_*_, _≤_}
+use native.Mathlib.Omega.{arith}
+use borrow.Author.Needs.{needs}
+use denote.Ref.{now}
+use lib.ListN.{length, take}
+use lib.Seq.{length-take-le}
+use Rattle.text.specs.Inner.{meant, AtMost}
+use Rattle.text.specs.Reading.{whole, mapText}
+use Rattle.text.proofs.Outcomes.{map-valid, bytes-refused, map-refused, map-answered}
+use Rattle.text.proofs.respond.Statement.{statement}
+use Rattle.text.proofs.respond.Tie as tie
+
+refuse-requires : tie.Need-refuse-requires
+refuse-requires c κs = search needs
+
+returns : tie.Need-returns
+returns c = bytes-refused _ (c .before .before .if1 .taken) (search needs) (c .refuse .ensures)
+
+slice-aggregate-read-map : tie.Need-slice-aggregate-read-map
+slice-aggregate-read-map c = search needs
+
+read-map-requires : tie.Need-read-map-requires
+read-map-requires c κs = search needs
+
+enum-known-number : tie.Need-enum-known-number
+enum-known-number c = search needs
+
+refuse-requires-2 : tie.Need-refuse-requires-2
+refuse-requires-2 c κs = search needs
+
+enum-known-n : tie.Need-enum-known-n
+enum-known-n c = search needs
+
+-- the vertices are few
+few : (c : tie.After-known-told2) → c .before .n .given .0 .0 ≤ 1024
+few c = subst (AtMost 1024) (c .before .n .given .1) (c .before .before .before .before .read-map .ensures .1)
+
+-- the list has the room that it was made with
+room : (c : tie.After-read-map) → length (c .read-map .last .1 .0) ≡ 3072
+room c = c .read-map .kept .1 .0
+
+-- the vertices are in the list
+fits : (c : tie.After-known-told2) → 3 * c .before .n .given .0 .0 ≤ length (c .before .before .before .before .read-map .last .1 .0)
+fits c = omega (arith, few c, room (c .before .before .before .before))
+
+-- the map is read whole
+read : (c : tie.After-known-told2) → whole (take (3 * c .before .n .given .0 .0) (c .before .before .before .before .read-map .last .1 .0)) ≡ mapText (now (c .before .before .before .before .before .before .before .before .args .input))
+read c = ap (λ r. meant r (c .before .before .before .before .read-map .last .1 .0)) (sym (c .before .n .given .1)) ∙ c .before .before .before .before .read-map .ensures .0
+
+mul-end : tie.Need-mul-end
+mul-end c = omega (arith, few c)
+
+array-share-prefix-list : tie.Need-array-share-prefix-list
+array-share-prefix-list c = fits c
+
+slice-aggregate-answer-wishes : tie.Need-slice-aggregate-answer-wishes
+slice-aggregate-answer-wishes c = sym (length-take-le _ _ (fits (c .before)))
+
+answer-wishes-requires : tie.Need-answer-wishes-requires
+answer-wishes-requires c κs = (few (c .before .before), (map-valid _ _ (read (c .before .before)), search needs))
+
+returns-2 : tie.Need-returns-2
+returns-2 c =
+    let e = ap (λ r. meant r (c .before .before .before .before .before .before .read-map .last .1 .0)) (sym (c .before .before .before .number .given .1)) ∙ c .before .before .before .before .before .before .read-map .ensures .0 in
+    map-refused _ (c .before .before .before .before .before .before .before .before .if1 .left) e (search needs) (c .refuse2 .ensures)
+
+returns-3 : tie.Need-returns-3
+returns-3 c = map-answered _ (c .before .before .before .before .before .before .before .before .before .if1 .left) _ _ (fits (c .before .before .before)) (read (c .before .before .before)) (c .answer-wishes .ensures)
+
+pub respond-spec : {M : Type 1} → statement M
+respond-spec =
+    tie.close
+    (tie.spec
+    refuse-requires
+    returns
+    slice-aggregate-read-map
+    read-map-requires
+    enum-known-number
+    refuse-requires-2
+    enum-known-n
+    mul-end
+    array-share-prefix-list
+    slice-aggregate-answer-wishes
+    answer-wishes-requires
+    returns-2
+    returns-3)
