@@ -7,3 +7,4 @@ pub mod Lines
 pub mod Filling
 pub mod Settled
 pub mod Outcomes
+pub mod Examples
