@@ -35,10 +35,11 @@ use Rattle.keys.proofs.Corners.{keys-ok, keys-rise, permitted-corners, one-keys
 use Rattle.rising.specs.Merged.{From, merged, lessBase}
 use Rattle.rising.proofs.Sums.{sum-merged, from-merged, all-merged, length-merged}
 use Rattle.joins.specs.Join.{joinedList, fitsIn, madeAnswer, madeContents, roomAnswer, roomContents, JoinMade, answerBy, contentsBy}
-use Rattle.joins.specs.Sweep.{planeFits, planeOk, holdsBy, Means, Joined, Roomy, Working}
+use Rattle.sweep.specs.Sweep.{planeFits, planeOk, holdsBy, Means, Joined, Roomy}
+use Rattle.joins.specs.Room.{Working}
 use Rattle.joins.specs.declared.Joining.{Joining}
 use Rattle.joins.specs.declared.Joining.the-variants.{Done, BadOperation, FirstRefused, SecondRefused, NoRoom}
-use Rattle.joins.proofs.Pieces.{less-zero, front-of}
+use Rattle.sweep.proofs.Pieces.{less-zero, front-of}
 
 -- ---- keys of the sweep are keys of corners
 

@@ -1,7 +1,5 @@
 // The four operations on two travel maps. The engine is the sweep of report section 4, plane by plane, with both maps' planes at one number
-// taken together; exclusive or is one merge. It relies on `lists` for the check and on `keys` for lists of keys.
-mod sweep;
-
+// taken together; exclusive or is one merge. It relies on `lists` for the check, on `keys` for lists of keys and on `sweep` for the engine.
 ghost use mathlib.Core.Path.{_≡_};
 ghost use mathlib.Core.Bool.{true};
 ghost use mathlib.Core.Option.{some};
@@ -11,7 +9,7 @@ ghost use Rattle.meaning.specs.Lists.{vertices, mostVertices, Valid};
 ghost use Rattle.meaning.specs.Operations.{Operation, operation, exclusive};
 ghost use Rattle.meaning.specs.Verdicts.{verdict, passes};
 ghost use Rattle.joins.specs.Join.{joinedList, madeAnswer, madeContents, roomAnswer, roomContents, JoinMade};
-ghost use Rattle.joins.specs.Sweep.{Working};
+ghost use Rattle.joins.specs.Room.{Working};
 use meaning::MOST_VERTICES;
 use meaning::Verdict;
 

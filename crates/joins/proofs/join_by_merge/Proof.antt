@@ -3,7 +3,7 @@ use native.Mathlib.Omega.{arith}
 use lib.ListN.{length, take}
 use lib.Seq.{length-take-le}
 use Rattle.meaning.specs.Lists.{vertices}
-use Rattle.joins.proofs.Pieces.{any}
+use Rattle.sweep.proofs.Pieces.{any}
 use Rattle.joins.proofs.Whole.{read-front, read-room, triple-room, lengths, merge-within, merge-ok, merge-done, merge-short}
 use borrow.Author.Needs.{needs}
 use Rattle.joins.proofs.join_by_merge.Statement.{statement}

@@ -6,14 +6,14 @@ use Rattle.meaning.specs.Counting.{All}
 use Rattle.meaning.specs.Lists.{vertices}
 use Rattle.meaning.specs.Operations.{exclusive}
 use Rattle.rising.specs.Merged.{From}
-use Rattle.joins.specs.Sweep.{planeOk}
+use Rattle.sweep.specs.Sweep.{planeOk}
 use Rattle.joins.proofs.Whole.{read-front, rises-a, rises-b, proper-a, proper-b, outer-room, inner-rooms, sweep-short, back-room, back-length, back-ok, sweep-done}
 use borrow.Author.Needs.{needs}
 use Rattle.joins.proofs.join_in.Statement.{statement}
 use Rattle.joins.proofs.join_in.Tie as tie
 use Rattle.joins.proofs.join_in.Reads as reads
 use Rattle.joins.proofs.join_in.Lts as lts
-use Rattle.joins.proofs.sweep.join_planes.Reads as join-planes-reads
+use Rattle.sweep.proofs.join_planes.Reads as join-planes-reads
 use Rattle.keys.proofs.read.Reads as read-reads
 use Rattle.keys.proofs.write.Reads as write-reads
 
