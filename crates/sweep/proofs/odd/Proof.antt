@@ -2,10 +2,7 @@ use Rattle.sweep.proofs.Pieces.{odd-rem}
 use borrow.Author.Needs.{needs}
 use Rattle.sweep.proofs.odd.Statement.{statement}
 use Rattle.sweep.proofs.odd.Tie as tie
-use Rattle.sweep.proofs.odd.Reads as reads
-use Rattle.sweep.proofs.odd.Lts as lts
 
--- src/sweep.rt:152:1
 returns : tie.Need-returns
 returns c = odd-rem (c .args .n)
 

@@ -5,8 +5,6 @@ use Rattle.sweep.proofs.Pieces.{Running, run-begins, run-goes, run-stop
 use borrow.Author.Needs.{needs}
 use Rattle.sweep.proofs.run.Statement.{statement}
 use Rattle.sweep.proofs.run.Tie as tie
-use Rattle.sweep.proofs.run.Reads as reads
-use Rattle.sweep.proofs.run.Lts as lts
 
 abbrev Inv-loop : tie.InvT-loop
 Inv-loop keys i limit e₀ e = Running keys i limit e
@@ -14,35 +12,31 @@ Inv-loop keys i limit e₀ e = Running keys i limit e
 abbrev μ-loop : tie.MeasureT-loop
 μ-loop keys i limit e₀ e = length keys - e
 
--- src/sweep.rt:59:5
 loop-holds : tie.Need-loop-holds Inv-loop μ-loop
 loop-holds c = search (run-begins, needs)
 
--- src/sweep.rt:60:21
 mul-if1 : tie.Need-mul-if1 Inv-loop μ-loop
 mul-if1 c = search needs
 
--- src/sweep.rt:60:21
 shared-slice-read-if1 : tie.Need-shared-slice-read-if1 Inv-loop μ-loop
 shared-slice-read-if1 c = search needs
 
--- src/sweep.rt:61:13
 returns : tie.Need-returns Inv-loop μ-loop
-returns c = run-stops _ _ _ _ (c .before .before .before .loop .inv) (omega arith) (omega arith)
+returns c =
+    let turn = c .before .before .before in
+    run-stops _ _ _ _ (turn .loop .inv) (omega arith) (omega arith)
 
--- src/sweep.rt:63:9
 add-e : tie.Need-add-e Inv-loop μ-loop
 add-e c = search needs
 
--- src/sweep.rt:59:5
 loop-less : tie.Need-loop-less Inv-loop μ-loop
 loop-less c = search needs
 
--- src/sweep.rt:59:5
 loop-again : tie.Need-loop-again Inv-loop μ-loop
-loop-again c = run-goes _ _ _ _ (c .before .before .before .loop .inv) (omega arith) (omega arith)
+loop-again c =
+    let turn = c .before .before .before in
+    run-goes _ _ _ _ (turn .loop .inv) (omega arith) (omega arith)
 
--- src/sweep.rt:53:1
 returns-2 : tie.Need-returns-2 Inv-loop μ-loop
 returns-2 c = run-ends _ _ _ _ (c .before .loop .inv) (omega arith)
 

@@ -8,36 +8,27 @@ use Rattle.sweep.proofs.Pieces.{parts-length, into-short, into-fits, co
 use borrow.Author.Needs.{needs}
 use Rattle.sweep.proofs.take_in.Statement.{statement}
 use Rattle.sweep.proofs.take_in.Tie as tie
-use Rattle.sweep.proofs.take_in.Reads as reads
-use Rattle.sweep.proofs.take_in.Lts as lts
-use Rattle.rising.proofs.merge.Reads as merge-reads
-use Rattle.rising.proofs.put.Reads as put-reads
 
--- src/sweep.rt:76:27
 slice-reshare-prefix-merge : tie.Need-slice-reshare-prefix-merge
 slice-reshare-prefix-merge c = search needs
 
--- src/sweep.rt:76:27
 slice-aggregate-merge : tie.Need-slice-aggregate-merge
-slice-aggregate-merge c = sym (length-take-le _ _ (c .before .before .before .before .pre .0 .0))
+slice-aggregate-merge c =
+    let start = c .before .before .before .before in
+    sym (length-take-le _ _ (start .pre .0 .0))
 
--- src/sweep.rt:76:38
 mul-merge : tie.Need-mul-merge
 mul-merge c = search needs
 
--- src/sweep.rt:76:38
 sub-merge : tie.Need-sub-merge
 sub-merge c = search needs
 
--- src/sweep.rt:76:38
 part-merge-start : tie.Need-part-merge-start
 part-merge-start c = search needs
 
--- src/sweep.rt:76:38
 part-merge-end : tie.Need-part-merge-end
 part-merge-end c = search needs
 
--- src/sweep.rt:76:9
 merge-requires : tie.Need-merge-requires
 merge-requires c κs =
     let s = c .before .before .before .before .before .before in
@@ -50,46 +41,52 @@ short : (c : tie.After-merge) → c .merge .result ≤ c .before .before .before
 short c =
     let s = c .before .before .before .before .before .before .before in
     let p = s .pre in
-    omega (arith, c .merge .ensures .0, into-short (s .args .sec .now) (s .args .keys .now) (s .args .n) (s .args .i) (s .args .e) (s .args .base) (p .0 .0) (p .0 .1) (p .0 .2))
+    omega
+    (
+      arith,
+      c .merge .ensures .0,
+      into-short (s .args .sec .now) (s .args .keys .now) (s .args .n) (s .args .i) (s .args .e) (s .args .base) (p .0 .0) (p .0 .1) (p .0 .2),
+    )
 
 -- and there is room for it
 roomy : (c : tie.After-merge) → c .merge .result ≤ length (c .merge .last .1 .1 .1 .0)
-roomy c = omega (arith, short c, c .merge .kept .1 .1 .1 .0, c .before .before .before .before .before .before .before .pre .1 .0 .1)
+roomy c =
+    let start = c .before .before .before .before .before .before .before in
+    omega (arith, short c, c .merge .kept .1 .1 .1 .0, start .pre .1 .0 .1)
 
--- src/sweep.rt:77:17
 slice-reshare-prefix-put : tie.Need-slice-reshare-prefix-put
 slice-reshare-prefix-put c = roomy (c .before .before)
 
--- src/sweep.rt:77:17
 slice-aggregate-put : tie.Need-slice-aggregate-put
-slice-aggregate-put c = sym (length-take-le _ _ (roomy (c .before .before .before)))
+slice-aggregate-put c =
+    let at-state = c .before .before .before in
+    sym (length-take-le _ _ (roomy (at-state)))
 
--- src/sweep.rt:77:5
 put-requires : tie.Need-put-requires
 put-requires c κs =
     let m = c .before .before .before .before in
     let s = m .before .before .before .before .before .before .before in
     let p = s .pre in (
       omega (arith, length-take-le (m .merge .result) (m .merge .last .1 .1 .1 .0) (roomy m), short m, p .1 .0 .0),
-      copied (s .args .sec .now) (s .args .keys .now) (s .args .n) (s .args .i) (s .args .e) (s .args .base) (p .0 .0) (p .0 .1) (p .0 .2) (m .merge .result) (s .args .room .now) (m .merge .last .1 .1 .1 .0) [] (m .merge .ensures .0) (m .merge .ensures .1) (λ k. 0 + k < 2 ^ 32)
+      copied (s .args .sec .now) (s .args .keys .now) (s .args .n) (s .args .i) (s .args .e) (s .args .base) (p .0 .0) (p .0 .1) (p .0 .2) (m .merge .result)
+          (s .args .room .now) (m .merge .last .1 .1 .1 .0) [] (m .merge .ensures .0) (m .merge .ensures .1) (λ k. 0 + k < 2 ^ 32)
           (into-fits (s .args .sec .now) (s .args .keys .now) (s .args .n) (s .args .i) (s .args .e) (s .args .base) (p .0 .0) (p .0 .1) (p .0 .2) (p .1 .1 .1 .0) (p .1 .1 .1 .1)),
     )
 
--- src/sweep.rt:69:1
 same-length : tie.Need-same-length
 same-length c = search needs
 
--- src/sweep.rt:69:1
 same-length-2 : tie.Need-same-length-2
 same-length-2 c = search needs
 
--- src/sweep.rt:69:1
 returns : tie.Need-returns
 returns c =
-    let m = c .before .before .before .before .before .before .before in
+    let at-put = c .before .before in
+    let m = at-put .before .before .before .before .before in
     let s = m .before .before .before .before .before .before .before in
     let p = s .pre in
-    took (s .args .sec .now) (s .args .keys .now) (s .args .n) (s .args .i) (s .args .e) (s .args .base) (p .0 .0) (p .0 .1) (p .0 .2) (m .merge .result) (s .args .room .now) (m .merge .last .1 .1 .1 .0) _ (m .merge .ensures .0) (m .merge .ensures .1) (c .before .before .put .ensures)
+    took (s .args .sec .now) (s .args .keys .now) (s .args .n) (s .args .i) (s .args .e) (s .args .base) (p .0 .0) (p .0 .1) (p .0 .2) (m .merge .result)
+    (s .args .room .now) (m .merge .last .1 .1 .1 .0) _ (m .merge .ensures .0) (m .merge .ensures .1) (at-put .put .ensures)
 
 pub take-in-spec : {M : Type 1} → statement M
 take-in-spec =
