@@ -15,6 +15,7 @@ use borrow.Author.Tests.{ne-eqb, ltb-true, ltb-false}
 use Rattle.meaning.specs.Counting.{All, odd}
 use Rattle.meaning.proofs.Space.{all-map, all-append}
 use Rattle.rising.specs.Merged.{From, merged, lessBase, plusBase}
+use Rattle.rising.proofs.Merging.{merged-nil}
 use Rattle.rising.proofs.Sums.{from-above, all-merged, length-merged}
 use Rattle.sweep.specs.Sweep.{Least, NextOf, Advanced, planeOf, Taken, Given, Marked, holdsBy}
 use Rattle.sweep.proofs.Levels.{from-drop, all-take, all-begins}
@@ -204,6 +205,14 @@ module _ (sec keys : List ℕ) (n i e base : ℕ) (hn : n ≤ length sec) (hi : 
       all-merged (λ x. 0 + x < 2 ^ 32) (take n sec) (lessBase base (planeOf keys i e))
       (all-map (take n sec) (λ x u. omega arith) k)
       (all-less (λ x. 0 + x < 2 ^ 32) base (planeOf keys i e) (all-map (planeOf keys i e) (λ x u. omega arith) h))
+
+  -- a plane without keys leaves the section as it is
+  pub took-none : i ≡ e → Taken sec n (planeOf keys i e) base sec n
+  took-none q =
+      let z : e - i ≡ 0 = omega arith in
+      let same : merged (take n sec) (lessBase base (planeOf keys i e)) ≡ take n sec =
+      ap (λ k. merged (take n sec) (lessBase base (take k (drop i keys)))) z ∙ merged-nil (take n sec) in
+      record { count = sym (ap length same ∙ length-take-le n sec hn); front = sym same }
 
   module _ (m : ℕ) (room room′ sec′ : List ℕ) (count : m ≡ length into) (left : room′ ≡ into ++ drop m room) where
     pub copied-length : length (take m room′) ≡ length into

@@ -68,7 +68,7 @@ fn run(keys: &[u32], i: usize, limit: u32) -> usize
 }
 
 // Takes the keys of a plane, from place i to e, into a section of n keys, and answers how many keys it has then; room is working room.
-fn take_in(
+fn take_some(
     sec: &mut [u32],
     n: usize,
     keys: &[u32],
@@ -86,6 +86,28 @@ fn take_in(
     let m = rising::merge(&sec[..n], &keys[i..e], base, room);
     rising::put(&room[..m], 0, sec);
     m
+}
+
+// The same; where the plane has no keys the section stays as it is.
+fn take_in(
+    sec: &mut [u32],
+    n: usize,
+    keys: &[u32],
+    i: usize,
+    e: usize,
+    base: u32,
+    room: &mut [u32],
+) -> usize
+    requires { ⌜ (n ≤ length (now sec)) × (i ≤ e) × (e ≤ length (now keys)) ⌝ }
+    requires { ⌜ (n + (e - i) ≤ length (now sec)) × (n + (e - i) ≤ length (now room)) ⌝ }
+    requires { ⌜ All (λ k. base ≤ k) (planeOf (now keys) i e) ⌝ }
+    requires { ⌜ All (λ k. k < 2 ^ 32) (planeOf (now keys) i e) × All (λ k. k < 2 ^ 32) (take n (now sec)) ⌝ }
+    ensures { λ r. ⌜ Taken (now (sec .entry)) n (planeOf (now (keys .entry)) i e) base (now (sec .exit)) r ⌝ }
+{
+    if i == e {
+        return n;
+    }
+    take_some(sec, n, keys, i, e, base, room)
 }
 
 // Where the next plane of two operands begins, and where each operand leaves it.

@@ -52,8 +52,7 @@ join-by-merge-requires c κs =
     let at-check2 = at-is-valid2 .before in
     let at-if3 = at-check2 .before in
     let at-is-valid = at-if3 .before in
-    let at-check = at-is-valid .before in
-    (
+    let at-check = at-is-valid .before in (
       passes-valid _ (ap passes (sym (at-check .check .ensures)) ∙ sym (at-is-valid .is-valid .ensures) ∙ not-false _ (at-if3 .if3 .left)),
       passes-valid _ (ap passes (sym (at-check2 .check2 .ensures)) ∙ sym (at-is-valid2 .is-valid2 .ensures) ∙ not-false _ (at-if4 .if4 .left)),
     )
@@ -84,8 +83,7 @@ join-by-sweep-requires c κs =
     let at-check2 = at-is-valid2 .before in
     let at-if3 = at-check2 .before in
     let at-is-valid = at-if3 .before in
-    let at-check = at-is-valid .before in
-    (
+    let at-check = at-is-valid .before in (
       passes-valid _ (ap passes (sym (at-check .check .ensures)) ∙ sym (at-is-valid .is-valid .ensures) ∙ not-false _ (at-if3 .if3 .left)),
       passes-valid _ (ap passes (sym (at-check2 .check2 .ensures)) ∙ sym (at-is-valid2 .is-valid2 .ensures) ∙ not-false _ (at-if4 .if4 .left)),
     )

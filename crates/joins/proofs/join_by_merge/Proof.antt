@@ -54,12 +54,11 @@ merge-requires : tie.Need-merge-requires
 merge-requires c κs =
     let at-read2 = c .before .before .before .before in
     let at-read = at-read2 .before .before .before in
-    let start = at-read .before .before in
-    (
+    let start = at-read .before .before in (
       lengths (start .args .a .now) (start .args .b .now) (start .pre .0) (start .pre .1) (at-read .read .result) (at-read2 .read2 .result)
-      (at-read .read .last .1 .0) (at-read2 .read2 .last .1 .0)
-      (read-front (vertices (start .args .a .now)) _ _ _ (at-read .read .ensures .0) (at-read .read .ensures .1))
-      (read-front (vertices (start .args .b .now)) _ _ _ (at-read2 .read2 .ensures .0) (at-read2 .read2 .ensures .1)),
+          (at-read .read .last .1 .0) (at-read2 .read2 .last .1 .0)
+          (read-front (vertices (start .args .a .now)) _ _ _ (at-read .read .ensures .0) (at-read .read .ensures .1))
+          (read-front (vertices (start .args .b .now)) _ _ _ (at-read2 .read2 .ensures .0) (at-read2 .read2 .ensures .1)),
       any (take (at-read2 .read2 .result) (at-read2 .read2 .last .1 .0)),
     )
 
@@ -85,14 +84,13 @@ array-share-prefix-room c =
     let at-read2 = at-merge .before .before .before .before .before in
     let at-read = at-read2 .before .before .before in
     let start = at-read .before .before in
-    omega
-    (
+    omega (
       arith,
       merge-within (start .args .a .now) (start .args .b .now) (start .pre .0) (start .pre .1) (at-read .read .result) (at-read2 .read2 .result)
-      (at-read .read .last .1 .0) (at-read2 .read2 .last .1 .0)
-      (read-front (vertices (start .args .a .now)) _ _ _ (at-read .read .ensures .0) (at-read .read .ensures .1))
-      (read-front (vertices (start .args .b .now)) _ _ _ (at-read2 .read2 .ensures .0) (at-read2 .read2 .ensures .1)) (at-merge .merge .result) _
-      (at-merge .merge .last .1 .1 .1 .0) (at-merge .merge .ensures .0) (at-merge .merge .ensures .1),
+          (at-read .read .last .1 .0) (at-read2 .read2 .last .1 .0)
+          (read-front (vertices (start .args .a .now)) _ _ _ (at-read .read .ensures .0) (at-read .read .ensures .1))
+          (read-front (vertices (start .args .b .now)) _ _ _ (at-read2 .read2 .ensures .0) (at-read2 .read2 .ensures .1)) (at-merge .merge .result) _
+          (at-merge .merge .last .1 .1 .1 .0) (at-merge .merge .ensures .0) (at-merge .merge .ensures .1),
       at-merge .merge .kept .1 .1 .1 .0,
     )
 
@@ -107,10 +105,10 @@ slice-aggregate-write c =
     (omega (
       arith,
       merge-within (start .args .a .now) (start .args .b .now) (start .pre .0) (start .pre .1) (at-read .read .result) (at-read2 .read2 .result)
-      (at-read .read .last .1 .0) (at-read2 .read2 .last .1 .0)
-      (read-front (vertices (start .args .a .now)) _ _ _ (at-read .read .ensures .0) (at-read .read .ensures .1))
-      (read-front (vertices (start .args .b .now)) _ _ _ (at-read2 .read2 .ensures .0) (at-read2 .read2 .ensures .1)) (at-merge .merge .result) _
-      (at-merge .merge .last .1 .1 .1 .0) (at-merge .merge .ensures .0) (at-merge .merge .ensures .1),
+          (at-read .read .last .1 .0) (at-read2 .read2 .last .1 .0)
+          (read-front (vertices (start .args .a .now)) _ _ _ (at-read .read .ensures .0) (at-read .read .ensures .1))
+          (read-front (vertices (start .args .b .now)) _ _ _ (at-read2 .read2 .ensures .0) (at-read2 .read2 .ensures .1)) (at-merge .merge .result) _
+          (at-merge .merge .last .1 .1 .1 .0) (at-merge .merge .ensures .0) (at-merge .merge .ensures .1),
       at-merge .merge .kept .1 .1 .1 .0,
     )))
 
@@ -121,25 +119,24 @@ write-requires c κs =
     let at-merge = at-fitting .before .before in
     let at-read2 = at-merge .before .before .before .before .before in
     let at-read = at-read2 .before .before .before in
-    let start = at-read .before .before in
-    (
+    let start = at-read .before .before in (
       merge-ok (start .args .a .now) (start .args .b .now) (start .pre .0) (start .pre .1) (at-read .read .result) (at-read2 .read2 .result)
-      (at-read .read .last .1 .0) (at-read2 .read2 .last .1 .0)
-      (read-front (vertices (start .args .a .now)) _ _ _ (at-read .read .ensures .0) (at-read .read .ensures .1))
-      (read-front (vertices (start .args .b .now)) _ _ _ (at-read2 .read2 .ensures .0) (at-read2 .read2 .ensures .1)) (at-merge .merge .result) _
-      (at-merge .merge .last .1 .1 .1 .0) (at-merge .merge .ensures .0) (at-merge .merge .ensures .1),
-      omega (
-        arith,
-        length-take-le (at-merge .merge .result) (at-merge .merge .last .1 .1 .1 .0)
-        (omega (
-          arith,
-          merge-within (start .args .a .now) (start .args .b .now) (start .pre .0) (start .pre .1) (at-read .read .result) (at-read2 .read2 .result)
           (at-read .read .last .1 .0) (at-read2 .read2 .last .1 .0)
           (read-front (vertices (start .args .a .now)) _ _ _ (at-read .read .ensures .0) (at-read .read .ensures .1))
           (read-front (vertices (start .args .b .now)) _ _ _ (at-read2 .read2 .ensures .0) (at-read2 .read2 .ensures .1)) (at-merge .merge .result) _
           (at-merge .merge .last .1 .1 .1 .0) (at-merge .merge .ensures .0) (at-merge .merge .ensures .1),
-          at-merge .merge .kept .1 .1 .1 .0,
-        )),
+      omega (
+        arith,
+        length-take-le (at-merge .merge .result) (at-merge .merge .last .1 .1 .1 .0)
+            (omega (
+              arith,
+              merge-within (start .args .a .now) (start .args .b .now) (start .pre .0) (start .pre .1) (at-read .read .result) (at-read2 .read2 .result)
+                  (at-read .read .last .1 .0) (at-read2 .read2 .last .1 .0)
+                  (read-front (vertices (start .args .a .now)) _ _ _ (at-read .read .ensures .0) (at-read .read .ensures .1))
+                  (read-front (vertices (start .args .b .now)) _ _ _ (at-read2 .read2 .ensures .0) (at-read2 .read2 .ensures .1)) (at-merge .merge .result) _
+                  (at-merge .merge .last .1 .1 .1 .0) (at-merge .merge .ensures .0) (at-merge .merge .ensures .1),
+              at-merge .merge .kept .1 .1 .1 .0,
+            )),
         triple-room (at-merge .merge .result) (length (start .args .out .now)) (omega (arith, at-fitting .fitting .ensures, at-if1 .if1 .left)),
       ),
     )

@@ -57,14 +57,14 @@ join-planes-requires c κs =
               (omega (
                 arith,
                 length-take-le (at-read .read .result) (at-read .read .last .1 .0)
-                (omega (arith, at-read .read .ensures .0, at-read .read .kept .1 .0, start .pre .1 .0 .is-ka, start .pre .1 .1 .0 .0)),
+                    (omega (arith, at-read .read .ensures .0, at-read .read .kept .1 .0, start .pre .1 .0 .is-ka, start .pre .1 .1 .0 .0)),
                 at-read .read .ensures .0,
                 start .pre .1 .1 .0 .0,
               ))
               (omega (
                 arith,
                 length-take-le (at-read2 .read2 .result) (at-read2 .read2 .last .1 .0)
-                (omega (arith, at-read2 .read2 .ensures .0, at-read2 .read2 .kept .1 .0, start .pre .1 .0 .is-kb, start .pre .1 .1 .0 .1)),
+                    (omega (arith, at-read2 .read2 .ensures .0, at-read2 .read2 .kept .1 .0, start .pre .1 .0 .is-kb, start .pre .1 .1 .0 .1)),
                 at-read2 .read2 .ensures .0,
                 start .pre .1 .1 .0 .1,
               ))
@@ -156,22 +156,21 @@ write-requires c κs =
     let at-join-planes = at-if1 .before .before .before .before .before .before .before .before .before .before .before .before .before .before .before .before .before .before .before .before .before in
     let at-read2 = at-join-planes .before .before .before .before .before .before .before .before .before .before .before .before .before .before .before in
     let at-read = at-read2 .before .before .before .before in
-    let start = at-read .before .before .before .before .before .before .before .before .before .before .before .before .before .before in
-    (
+    let start = at-read .before .before .before .before .before .before .before .before .before .before .before .before .before .before in (
       back-ok (start .args .op) (start .args .a .now) (start .args .b .now) (start .pre .0 .0) (start .pre .0 .1) (start .args .most)
-      (at-join-planes .join-planes .result) (at-read .read .last .1 .0) (at-read2 .read2 .last .1 .0) (start .args .kr .now)
-      (at-join-planes .join-planes .last .1 .1 .1 .0) (at-read .read .result) (at-read2 .read2 .result)
-      (read-front (vertices (start .args .a .now)) _ _ _ (at-read .read .ensures .0) (at-read .read .ensures .1))
-      (read-front (vertices (start .args .b .now)) _ _ _ (at-read2 .read2 .ensures .0) (at-read2 .read2 .ensures .1)) (start .pre .1 .1 .1 .0)
-      (at-join-planes .join-planes .ensures) (drop (start .args .most) (start .args .kr .now)) (at-if1 .if1 .left),
+          (at-join-planes .join-planes .result) (at-read .read .last .1 .0) (at-read2 .read2 .last .1 .0) (start .args .kr .now)
+          (at-join-planes .join-planes .last .1 .1 .1 .0) (at-read .read .result) (at-read2 .read2 .result)
+          (read-front (vertices (start .args .a .now)) _ _ _ (at-read .read .ensures .0) (at-read .read .ensures .1))
+          (read-front (vertices (start .args .b .now)) _ _ _ (at-read2 .read2 .ensures .0) (at-read2 .read2 .ensures .1)) (start .pre .1 .1 .1 .0)
+          (at-join-planes .join-planes .ensures) (drop (start .args .most) (start .args .kr .now)) (at-if1 .if1 .left),
       omega (
         arith,
         back-length (start .args .op) (start .args .a .now) (start .args .b .now) (start .pre .0 .0) (start .pre .0 .1) (start .args .most)
-        (at-join-planes .join-planes .result) (at-read .read .last .1 .0) (at-read2 .read2 .last .1 .0) (start .args .kr .now)
-        (at-join-planes .join-planes .last .1 .1 .1 .0) (at-read .read .result) (at-read2 .read2 .result)
-        (read-front (vertices (start .args .a .now)) _ _ _ (at-read .read .ensures .0) (at-read .read .ensures .1))
-        (read-front (vertices (start .args .b .now)) _ _ _ (at-read2 .read2 .ensures .0) (at-read2 .read2 .ensures .1)) (start .pre .1 .1 .1 .0)
-        (at-join-planes .join-planes .ensures) (drop (start .args .most) (start .args .kr .now)) (at-if1 .if1 .left),
+            (at-join-planes .join-planes .result) (at-read .read .last .1 .0) (at-read2 .read2 .last .1 .0) (start .args .kr .now)
+            (at-join-planes .join-planes .last .1 .1 .1 .0) (at-read .read .result) (at-read2 .read2 .result)
+            (read-front (vertices (start .args .a .now)) _ _ _ (at-read .read .ensures .0) (at-read .read .ensures .1))
+            (read-front (vertices (start .args .b .now)) _ _ _ (at-read2 .read2 .ensures .0) (at-read2 .read2 .ensures .1)) (start .pre .1 .1 .1 .0)
+            (at-join-planes .join-planes .ensures) (drop (start .args .most) (start .args .kr .now)) (at-if1 .if1 .left),
         at-if1 .if1 .left,
         start .pre .1 .1 .1 .1,
       ),

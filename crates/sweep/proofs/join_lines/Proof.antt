@@ -38,17 +38,16 @@ add-loop : tie.Need-add-loop Inv-loop μ-loop
 add-loop c = search needs
 
 next-requires : tie.Need-next-requires Inv-loop μ-loop
-next-requires c κs =
+next-requires c κs = (
+  (omega arith, omega arith),
+  (
+    (in-a (c .before .loop .inv), in-b (c .before .loop .inv)),
     (
-      (omega arith, omega arith),
-      (
-        (in-a (c .before .loop .inv), in-b (c .before .loop .inv)),
-        (
-          omega (arith, (c .before .loop .inv) .counts, c .loop-test .taken),
-          (((c .before .loop .inv) .rises-a, (c .before .loop .inv) .rises-b), (bound-a (c .before .loop .inv), bound-b (c .before .loop .inv))),
-        ),
-      ),
-    )
+      omega (arith, (c .before .loop .inv) .counts, c .loop-test .taken),
+      (((c .before .loop .inv) .rises-a, (c .before .loop .inv) .rises-b), (bound-a (c .before .loop .inv), bound-b (c .before .loop .inv))),
+    ),
+  ),
+)
 
 take-in-requires : tie.Need-take-in-requires Inv-loop μ-loop
 take-in-requires c κs =
@@ -70,8 +69,7 @@ slice-reshare-prefix-join-numbers c =
     let at-take-in = at-take-in2 .before .before .before .before .before .before .before in
     let at-next = at-take-in .before .before .before in
     let turn = at-next .before .before in
-    omega
-    (
+    omega (
       arith,
       few-a′ (turn .loop .inv) (at-next .next .ensures) (at-take-in .take-in .ensures) (at-take-in2 .take-in2 .ensures),
       (at-next .next .ensures) .in-a .upto,
@@ -103,8 +101,7 @@ slice-reshare-prefix-join-numbers-2 c =
     let at-take-in = at-take-in2 .before .before .before .before .before .before .before in
     let at-next = at-take-in .before .before .before in
     let turn = at-next .before .before in
-    omega
-    (
+    omega (
       arith,
       few-b′ (turn .loop .inv) (at-next .next .ensures) (at-take-in .take-in .ensures) (at-take-in2 .take-in2 .ensures),
       (at-next .next .ensures) .in-b .upto,
@@ -135,8 +132,7 @@ join-numbers-requires c κs =
     let at-take-in2 = c .before .before .before .before .before .before .before in
     let at-take-in = at-take-in2 .before .before .before .before .before .before .before in
     let at-next = at-take-in .before .before .before in
-    let turn = at-next .before .before in
-    (
+    let turn = at-next .before .before in (
       (
         rises-a′ (turn .loop .inv) (at-next .next .ensures) (at-take-in .take-in .ensures) (at-take-in2 .take-in2 .ensures),
         rises-b′ (turn .loop .inv) (at-next .next .ensures) (at-take-in .take-in .ensures) (at-take-in2 .take-in2 .ensures),

@@ -90,45 +90,43 @@ returns c =
 loop-less : tie.Need-loop-less Inv-loop μ-loop
 loop-less c =
     let m = c .before .before .before in
-    omega
-    (
+    omega (
       arith,
       on (m .before .before .before .before .before .before .before .before .before .before .before .before .before .before .args .op)
-      (m .before .before .before .before .before .before .before .before .before .before .before .before .before .before .args .a .now)
-      (m .before .before .before .before .before .before .before .before .before .before .before .before .before .before .args .b .now)
-      (m .before .before .before .before .before .before .before .before .before .before .before .before .before .before .args .out .now)
-      (m .before .before .before .before .before .before .before .before .before .before .loop .out)
-      (m .before .before .before .before .before .before .before .before .before .before .loop .i)
-      (m .before .before .before .before .before .before .before .before .before .before .loop .j)
-      (m .before .before .before .before .before .before .before .before .before .before .loop .n)
-      (m .before .before .before .before .before .before .before .before .least .result)
-      (m .before .before .before .before .before .before .before .past .result) (m .before .before .before .before .before .before .past2 .result)
-      (m .before .before .before .before .before .before .before .before .before .before .loop .inv .1)
-      (m .before .before .before .before .before .before .before .before .least .ensures)
-      (m .before .before .before .before .before .before .before .past .ensures) (m .before .before .before .before .before .before .past2 .ensures),
+          (m .before .before .before .before .before .before .before .before .before .before .before .before .before .before .args .a .now)
+          (m .before .before .before .before .before .before .before .before .before .before .before .before .before .before .args .b .now)
+          (m .before .before .before .before .before .before .before .before .before .before .before .before .before .before .args .out .now)
+          (m .before .before .before .before .before .before .before .before .before .before .loop .out)
+          (m .before .before .before .before .before .before .before .before .before .before .loop .i)
+          (m .before .before .before .before .before .before .before .before .before .before .loop .j)
+          (m .before .before .before .before .before .before .before .before .before .before .loop .n)
+          (m .before .before .before .before .before .before .before .before .least .result)
+          (m .before .before .before .before .before .before .before .past .result) (m .before .before .before .before .before .before .past2 .result)
+          (m .before .before .before .before .before .before .before .before .before .before .loop .inv .1)
+          (m .before .before .before .before .before .before .before .before .least .ensures)
+          (m .before .before .before .before .before .before .before .past .ensures) (m .before .before .before .before .before .before .past2 .ensures),
       m .before .before .before .before .before .before .before .before .before .before .loop .inv .0,
       m .before .before .before .before .before .before .before .before .before .loop-test .taken,
     )
 
 loop-again : tie.Need-loop-again Inv-loop μ-loop
 loop-again c =
-    let m = c .before .before .before in
-    (
+    let m = c .before .before .before in (
       m .before .before .before .before .before .before .before .before .before .before .loop .inv .0,
       walk-on (m .before .before .before .before .before .before .before .before .before .before .before .before .before .before .args .op)
-      (m .before .before .before .before .before .before .before .before .before .before .before .before .before .before .args .a .now)
-      (m .before .before .before .before .before .before .before .before .before .before .before .before .before .before .args .b .now)
-      (m .before .before .before .before .before .before .before .before .before .before .before .before .before .before .args .out .now)
-      (m .before .before .before .before .before .before .before .before .before .before .loop .out)
-      (m .before .before .before .before .before .before .before .before .before .before .loop .i)
-      (m .before .before .before .before .before .before .before .before .before .before .loop .j)
-      (m .before .before .before .before .before .before .before .before .before .before .loop .n)
-      (m .before .before .before .before .before .before .before .before .least .result)
-      (m .before .before .before .before .before .before .before .past .result) (m .before .before .before .before .before .before .past2 .result)
-      (m .before .before .before .before .before .before .before .before .before .before .loop .inv .1)
-      (m .before .before .before .before .before .before .before .before .least .ensures)
-      (m .before .before .before .before .before .before .before .past .ensures) (m .before .before .before .before .before .before .past2 .ensures) _ _
-      (marked m) (m .mark .kept .0) (search needs),
+          (m .before .before .before .before .before .before .before .before .before .before .before .before .before .before .args .a .now)
+          (m .before .before .before .before .before .before .before .before .before .before .before .before .before .before .args .b .now)
+          (m .before .before .before .before .before .before .before .before .before .before .before .before .before .before .args .out .now)
+          (m .before .before .before .before .before .before .before .before .before .before .loop .out)
+          (m .before .before .before .before .before .before .before .before .before .before .loop .i)
+          (m .before .before .before .before .before .before .before .before .before .before .loop .j)
+          (m .before .before .before .before .before .before .before .before .before .before .loop .n)
+          (m .before .before .before .before .before .before .before .before .least .result)
+          (m .before .before .before .before .before .before .before .past .result) (m .before .before .before .before .before .before .past2 .result)
+          (m .before .before .before .before .before .before .before .before .before .before .loop .inv .1)
+          (m .before .before .before .before .before .before .before .before .least .ensures)
+          (m .before .before .before .before .before .before .before .past .ensures) (m .before .before .before .before .before .before .past2 .ensures) _ _
+          (marked m) (m .mark .kept .0) (search needs),
     )
 
 same-length-2 : tie.Need-same-length-2 Inv-loop μ-loop

@@ -29,12 +29,11 @@ add-total c = search needs
 
 loop-holds : tie.Need-loop-holds Inv-loop μ-loop
 loop-holds c =
-    let start = c .before .before .before .before .before .before .before .before .before .before .before .before in
-    (
+    let start = c .before .before .before .before .before .before .before .before .before .before .before .before in (
       begins lineFits lineOk (holdsBy (start .args .op)) 2099200 planes fit-planes small-planes bound-planes apart-planes (start .args .a .now)
-      (start .args .b .now) (start .args .out .now) (start .args .sa .now) (start .args .sb .now) (start .args .sc .now) (start .args .sn .now)
-      (start .args .room .now) (holds-out (start .args .op)) (start .pre .0 .0) (start .pre .0 .1) (start .pre .1 .0 .0) (start .pre .1 .0 .1)
-      (start .pre .1 .1 .0),
+          (start .args .b .now) (start .args .out .now) (start .args .sa .now) (start .args .sb .now) (start .args .sc .now) (start .args .sn .now)
+          (start .args .room .now) (holds-out (start .args .op)) (start .pre .0 .0) (start .pre .0 .1) (start .pre .1 .0 .0) (start .pre .1 .0 .1)
+          (start .pre .1 .1 .0),
       (refl, refl, refl, refl),
     )
 
@@ -42,17 +41,16 @@ add-loop : tie.Need-add-loop Inv-loop μ-loop
 add-loop c = search needs
 
 next-requires : tie.Need-next-requires Inv-loop μ-loop
-next-requires c κs =
+next-requires c κs = (
+  (omega arith, omega arith),
+  (
+    (in-a (c .before .loop .inv .0), in-b (c .before .loop .inv .0)),
     (
-      (omega arith, omega arith),
-      (
-        (in-a (c .before .loop .inv .0), in-b (c .before .loop .inv .0)),
-        (
-          omega (arith, (c .before .loop .inv .0) .counts, c .loop-test .taken),
-          (((c .before .loop .inv .0) .rises-a, (c .before .loop .inv .0) .rises-b), (bound-a (c .before .loop .inv .0), bound-b (c .before .loop .inv .0))),
-        ),
-      ),
-    )
+      omega (arith, (c .before .loop .inv .0) .counts, c .loop-test .taken),
+      (((c .before .loop .inv .0) .rises-a, (c .before .loop .inv .0) .rises-b), (bound-a (c .before .loop .inv .0), bound-b (c .before .loop .inv .0))),
+    ),
+  ),
+)
 
 take-in-requires : tie.Need-take-in-requires Inv-loop μ-loop
 take-in-requires c κs =
