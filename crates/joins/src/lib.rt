@@ -163,12 +163,12 @@ fn join_by_merge(a: &[i16], b: &[i16], out: &mut [i16]) -> Joining
     let mut room = [0u32; ROOM];
     let na = keys::read(a, &mut ka);
     let nb = keys::read(b, &mut kb);
-    let n = rising::merge(&ka[..na], &kb[..nb], 0, &mut room);
-    if fitting(out.len()) < n {
+    let count = rising::merge(&ka[..na], &kb[..nb], 0, &mut room);
+    if fitting(out.len()) < count {
         return Joining::NoRoom;
     }
-    keys::write(&room[..n], out);
-    Joining::Done(n)
+    keys::write(&room[..count], out);
+    Joining::Done(count)
 }
 
 // Joins two maps by operation 1 union, 2 overlap, 3 first without second or 4 exclusive or, into the front of out.
