@@ -235,6 +235,17 @@ module _ (a b : List ℤ) (va : Valid (vertices a)) (vb : Valid (vertices b)) (r
 
 -- ---- the sweep in working room
 
+-- what a sweep into the first places of a working list leaves, when that part is back in its place: a list that fits is the result, with
+-- keys that are in range; where it does not fit there is no room
+pub record Left (op : ℕ) (a b : List ℤ) (most n : ℕ) (now : List ℕ) : Type 0 where
+  pub long : (tail : List ℕ) → n ≤ most → length (take n (now ++ tail)) ≡ n
+  pub room : (tail : List ℕ) → n ≤ most → n ≤ length (now ++ tail)
+  pub ok : (tail : List ℕ) → n ≤ most → All KeyOk (take n (now ++ tail))
+  pub done : (tail : List ℕ) (before after : List ℤ) → n ≤ most → after ≡ numbers (map ofKey (take n (now ++ tail))) ++ drop (3 * length (take n (now ++ tail))) before
+      → (o : Operation) → operation op ≡ some o → (Done n ≡ roomAnswer (joinedList o a b) most) × (after ≡ roomContents (joinedList o a b) most before)
+  pub short : (before : List ℤ) → most < n
+      → (o : Operation) → operation op ≡ some o → (NoRoom ≡ roomAnswer (joinedList o a b) most) × (before ≡ roomContents (joinedList o a b) most before)
+
 module _ (op : ℕ) (a b : List ℤ) (va : Valid (vertices a)) (vb : Valid (vertices b)) (most n : ℕ) (ka kb kr now : List ℕ) (ra rb : ℕ)
     (fa : take ra ka ≡ map keyOf (vertices a)) (fb : take rb kb ≡ map keyOf (vertices b)) (hm : most ≤ length kr)
     (j : Joined planeFits planeOk (holdsBy op) (take ra ka) (take rb kb) (take most kr) now n) where
@@ -248,16 +259,16 @@ module _ (op : ℕ) (a b : List ℤ) (va : Valid (vertices a)) (vb : Valid (vert
   back : (tail : List ℕ) → n ≤ most → take n (now ++ tail) ≡ take n now
   back tail h = take-append-le n now tail (omega (arith, j .long, lent))
 
-  pub back-length : (tail : List ℕ) → n ≤ most → length (take n (now ++ tail)) ≡ n
+  back-length : (tail : List ℕ) → n ≤ most → length (take n (now ++ tail)) ≡ n
   back-length tail h = ap length (back tail h) ∙ length-take-le n now (omega (arith, j .long, lent))
 
-  pub back-room : (tail : List ℕ) → n ≤ most → n ≤ length (now ++ tail)
+  back-room : (tail : List ℕ) → n ≤ most → n ≤ length (now ++ tail)
   back-room tail h = omega (arith, length-append now tail, j .long, lent)
 
-  pub back-ok : (tail : List ℕ) → n ≤ most → All KeyOk (take n (now ++ tail))
+  back-ok : (tail : List ℕ) → n ≤ most → All KeyOk (take n (now ++ tail))
   back-ok tail h = subst (All KeyOk) (sym (back tail h)) (all-map (take n now) plane-of-key (j .proper (omega (arith, lent))))
 
-  pub sweep-done : (tail : List ℕ) (before after : List ℤ) → n ≤ most → after ≡ numbers (map ofKey (take n (now ++ tail))) ++ drop (3 * length (take n (now ++ tail))) before
+  sweep-done : (tail : List ℕ) (before after : List ℤ) → n ≤ most → after ≡ numbers (map ofKey (take n (now ++ tail))) ++ drop (3 * length (take n (now ++ tail))) before
       → (o : Operation) → operation op ≡ some o → (Done n ≡ roomAnswer (joinedList o a b) most) × (after ≡ roomContents (joinedList o a b) most before)
   sweep-done tail before after h w o is =
       let r = ap (map ofKey) (back tail h) ∙ swept op o is a b va vb (take most kr) now n on-keys (omega (arith, lent)) in
@@ -267,7 +278,7 @@ module _ (op : ℕ) (a b : List ℤ) (va : Valid (vertices a)) (vb : Valid (vert
         w ∙ ap₂ (λ x k. numbers x ++ drop (3 * k) before) r (back-length tail h ∙ l) ∙ sym (ap (λ t. cond t (numbers (joinedList o a b) ++ drop (3 * length (joinedList o a b)) before) before) f),
       )
 
-  pub sweep-short : (before : List ℤ) → most < n
+  sweep-short : (before : List ℤ) → most < n
       → (o : Operation) → operation op ≡ some o → (NoRoom ≡ roomAnswer (joinedList o a b) most) × (before ≡ roomContents (joinedList o a b) most before)
   sweep-short before h o is =
       let s = swept-short op o is a b va vb (take most kr) now n on-keys (omega (arith, lent)) in
@@ -275,6 +286,9 @@ module _ (op : ℕ) (a b : List ℤ) (va : Valid (vertices a)) (vb : Valid (vert
         sym (ap (λ t. cond t (Done (length (joinedList o a b))) NoRoom) f),
         sym (ap (λ t. cond t (numbers (joinedList o a b) ++ drop (3 * length (joinedList o a b)) before) before) f),
       )
+
+  pub left : Left op a b most n now
+  left = record { long = back-length; room = back-room; ok = back-ok; done = sweep-done; short = sweep-short }
 
 -- room for as many as fit is room for the list
 pub as-fits : (l : List Corner) (room most : ℕ) → most ≡ min mostVertices (room / 3) → leb (length l) most ≡ fitsIn l room

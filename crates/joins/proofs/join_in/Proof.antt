@@ -7,7 +7,7 @@ use Rattle.meaning.specs.Lists.{vertices}
 use Rattle.meaning.specs.Operations.{exclusive}
 use Rattle.rising.specs.Merged.{From}
 use Rattle.sweep.specs.Sweep.{planeOk}
-use Rattle.joins.proofs.Whole.{read-front, rises-a, rises-b, proper-a, proper-b, outer-room, inner-rooms, sweep-short, back-room, back-length, back-ok, sweep-done}
+use Rattle.joins.proofs.Whole.{read-front, rises-a, rises-b, proper-a, proper-b, outer-room, inner-rooms, Left, left}
 use borrow.Author.Needs.{needs}
 use Rattle.joins.proofs.join_in.Statement.{statement}
 use Rattle.joins.proofs.join_in.Tie as tie
@@ -110,67 +110,51 @@ same-length-11 c = search needs
 same-length-12 : tie.Need-same-length-12
 same-length-12 c = search needs
 
+-- the entry of the function, seen from the sweep's end
+abbrev begun : tie.After-join-planes → tie.Start
+begun c = c .before .before .before .before .before .before .before .before .before .before .before .before .before .before .before .before .before .before .before .before .before .before .before .before .before .before .before .before .before .before .before .before .before
+
+-- what the sweep leaves
+left-by : (c : tie.After-join-planes) →
+    let s = begun c in
+    Left (s .args .op) (s .args .a .now) (s .args .b .now) (s .args .most) (c .join-planes .result) (c .join-planes .last .1 .1 .1 .0)
+left-by c =
+    let at-read2 = c .before .before .before .before .before .before .before .before .before .before .before .before .before .before .before in
+    let at-read = at-read2 .before .before .before .before in
+    let start = at-read .before .before .before .before .before .before .before .before .before .before .before .before .before .before in
+    left (start .args .op) (start .args .a .now) (start .args .b .now) (start .pre .0 .0) (start .pre .0 .1) (start .args .most) (c .join-planes .result)
+    (at-read .read .last .1 .0) (at-read2 .read2 .last .1 .0) (start .args .kr .now) (c .join-planes .last .1 .1 .1 .0) (at-read .read .result)
+    (at-read2 .read2 .result) (read-front (vertices (start .args .a .now)) _ _ _ (at-read .read .ensures .0) (at-read .read .ensures .1))
+    (read-front (vertices (start .args .b .now)) _ _ _ (at-read2 .read2 .ensures .0) (at-read2 .read2 .ensures .1)) (start .pre .1 .1 .1 .0)
+    (c .join-planes .ensures)
+
 returns : tie.Need-returns
 returns c =
     let at-join-planes = c .before .before .before .before .before .before .before .before .before .before .before .before .before .before .before .before .before .before .before .before .before in
-    let at-read2 = at-join-planes .before .before .before .before .before .before .before .before .before .before .before .before .before .before .before in
-    let at-read = at-read2 .before .before .before .before in
-    let start = at-read .before .before .before .before .before .before .before .before .before .before .before .before .before .before in
-    sweep-short (start .args .op) (start .args .a .now) (start .args .b .now) (start .pre .0 .0) (start .pre .0 .1) (start .args .most)
-    (at-join-planes .join-planes .result) (at-read .read .last .1 .0) (at-read2 .read2 .last .1 .0) (start .args .kr .now)
-    (at-join-planes .join-planes .last .1 .1 .1 .0) (at-read .read .result) (at-read2 .read2 .result)
-    (read-front (vertices (start .args .a .now)) _ _ _ (at-read .read .ensures .0) (at-read .read .ensures .1))
-    (read-front (vertices (start .args .b .now)) _ _ _ (at-read2 .read2 .ensures .0) (at-read2 .read2 .ensures .1)) (start .pre .1 .1 .1 .0)
-    (at-join-planes .join-planes .ensures) (start .args .out .now) (c .if1 .taken)
+    let start = begun at-join-planes in
+    (left-by at-join-planes) .short (start .args .out .now) (c .if1 .taken)
 
 slice-reshare-prefix-write : tie.Need-slice-reshare-prefix-write
 slice-reshare-prefix-write c =
     let at-join-planes = c .before .before .before .before .before .before .before .before .before .before .before .before .before .before .before .before .before .before .before .before .before in
-    let at-read2 = at-join-planes .before .before .before .before .before .before .before .before .before .before .before .before .before .before .before in
-    let at-read = at-read2 .before .before .before .before in
-    let start = at-read .before .before .before .before .before .before .before .before .before .before .before .before .before .before in
-    back-room (start .args .op) (start .args .a .now) (start .args .b .now) (start .pre .0 .0) (start .pre .0 .1) (start .args .most)
-    (at-join-planes .join-planes .result) (at-read .read .last .1 .0) (at-read2 .read2 .last .1 .0) (start .args .kr .now)
-    (at-join-planes .join-planes .last .1 .1 .1 .0) (at-read .read .result) (at-read2 .read2 .result)
-    (read-front (vertices (start .args .a .now)) _ _ _ (at-read .read .ensures .0) (at-read .read .ensures .1))
-    (read-front (vertices (start .args .b .now)) _ _ _ (at-read2 .read2 .ensures .0) (at-read2 .read2 .ensures .1)) (start .pre .1 .1 .1 .0)
-    (at-join-planes .join-planes .ensures) (drop (start .args .most) (start .args .kr .now)) (c .if1 .left)
+    let start = begun at-join-planes in
+    omega (arith, (left-by at-join-planes) .room (drop (start .args .most) (start .args .kr .now)) (c .if1 .left))
 
 slice-aggregate-write : tie.Need-slice-aggregate-write
 slice-aggregate-write c =
     let at-join-planes = c .before .before .before .before .before .before .before .before .before .before .before .before .before .before .before .before .before .before .before .before .before .before in
-    let at-read2 = at-join-planes .before .before .before .before .before .before .before .before .before .before .before .before .before .before .before in
-    let at-read = at-read2 .before .before .before .before in
-    let start = at-read .before .before .before .before .before .before .before .before .before .before .before .before .before .before in
-    sym
-    (back-length (start .args .op) (start .args .a .now) (start .args .b .now) (start .pre .0 .0) (start .pre .0 .1) (start .args .most)
-    (at-join-planes .join-planes .result) (at-read .read .last .1 .0) (at-read2 .read2 .last .1 .0) (start .args .kr .now)
-    (at-join-planes .join-planes .last .1 .1 .1 .0) (at-read .read .result) (at-read2 .read2 .result)
-    (read-front (vertices (start .args .a .now)) _ _ _ (at-read .read .ensures .0) (at-read .read .ensures .1))
-    (read-front (vertices (start .args .b .now)) _ _ _ (at-read2 .read2 .ensures .0) (at-read2 .read2 .ensures .1)) (start .pre .1 .1 .1 .0)
-    (at-join-planes .join-planes .ensures) (drop (start .args .most) (start .args .kr .now)) (c .before .if1 .left))
+    let start = begun at-join-planes in
+    sym (length-take-le _ _ (omega (arith, (left-by at-join-planes) .room (drop (start .args .most) (start .args .kr .now)) (c .before .if1 .left))))
 
 write-requires : tie.Need-write-requires
 write-requires c κs =
     let at-if1 = c .before .before in
     let at-join-planes = at-if1 .before .before .before .before .before .before .before .before .before .before .before .before .before .before .before .before .before .before .before .before .before in
-    let at-read2 = at-join-planes .before .before .before .before .before .before .before .before .before .before .before .before .before .before .before in
-    let at-read = at-read2 .before .before .before .before in
-    let start = at-read .before .before .before .before .before .before .before .before .before .before .before .before .before .before in (
-      back-ok (start .args .op) (start .args .a .now) (start .args .b .now) (start .pre .0 .0) (start .pre .0 .1) (start .args .most)
-          (at-join-planes .join-planes .result) (at-read .read .last .1 .0) (at-read2 .read2 .last .1 .0) (start .args .kr .now)
-          (at-join-planes .join-planes .last .1 .1 .1 .0) (at-read .read .result) (at-read2 .read2 .result)
-          (read-front (vertices (start .args .a .now)) _ _ _ (at-read .read .ensures .0) (at-read .read .ensures .1))
-          (read-front (vertices (start .args .b .now)) _ _ _ (at-read2 .read2 .ensures .0) (at-read2 .read2 .ensures .1)) (start .pre .1 .1 .1 .0)
-          (at-join-planes .join-planes .ensures) (drop (start .args .most) (start .args .kr .now)) (at-if1 .if1 .left),
+    let start = begun at-join-planes in (
+      (left-by at-join-planes) .ok (drop (start .args .most) (start .args .kr .now)) (at-if1 .if1 .left),
       omega (
         arith,
-        back-length (start .args .op) (start .args .a .now) (start .args .b .now) (start .pre .0 .0) (start .pre .0 .1) (start .args .most)
-            (at-join-planes .join-planes .result) (at-read .read .last .1 .0) (at-read2 .read2 .last .1 .0) (start .args .kr .now)
-            (at-join-planes .join-planes .last .1 .1 .1 .0) (at-read .read .result) (at-read2 .read2 .result)
-            (read-front (vertices (start .args .a .now)) _ _ _ (at-read .read .ensures .0) (at-read .read .ensures .1))
-            (read-front (vertices (start .args .b .now)) _ _ _ (at-read2 .read2 .ensures .0) (at-read2 .read2 .ensures .1)) (start .pre .1 .1 .1 .0)
-            (at-join-planes .join-planes .ensures) (drop (start .args .most) (start .args .kr .now)) (at-if1 .if1 .left),
+        (left-by at-join-planes) .long (drop (start .args .most) (start .args .kr .now)) (at-if1 .if1 .left),
         at-if1 .if1 .left,
         start .pre .1 .1 .1 .1,
       ),
@@ -221,15 +205,8 @@ returns-2 : tie.Need-returns-2
 returns-2 c =
     let at-if1 = c .before .before .before .before in
     let at-join-planes = at-if1 .before .before .before .before .before .before .before .before .before .before .before .before .before .before .before .before .before .before .before .before .before in
-    let at-read2 = at-join-planes .before .before .before .before .before .before .before .before .before .before .before .before .before .before .before in
-    let at-read = at-read2 .before .before .before .before in
-    let start = at-read .before .before .before .before .before .before .before .before .before .before .before .before .before .before in
-    sweep-done (start .args .op) (start .args .a .now) (start .args .b .now) (start .pre .0 .0) (start .pre .0 .1) (start .args .most)
-    (at-join-planes .join-planes .result) (at-read .read .last .1 .0) (at-read2 .read2 .last .1 .0) (start .args .kr .now)
-    (at-join-planes .join-planes .last .1 .1 .1 .0) (at-read .read .result) (at-read2 .read2 .result)
-    (read-front (vertices (start .args .a .now)) _ _ _ (at-read .read .ensures .0) (at-read .read .ensures .1))
-    (read-front (vertices (start .args .b .now)) _ _ _ (at-read2 .read2 .ensures .0) (at-read2 .read2 .ensures .1)) (start .pre .1 .1 .1 .0)
-    (at-join-planes .join-planes .ensures) (drop (start .args .most) (start .args .kr .now)) (start .args .out .now) _ (at-if1 .if1 .left)
+    let start = begun at-join-planes in
+    (left-by at-join-planes) .done (drop (start .args .most) (start .args .kr .now)) (start .args .out .now) _ (at-if1 .if1 .left)
     (c .before .write .ensures)
 
 pub join-in-spec : {M : Type 1} → statement M
