@@ -28,7 +28,6 @@ use Rattle.meaning.proofs.Maps.{valid-within, one-permits, one-rising, one-corn
 use Rattle.meaning.proofs.Making.{join-within}
 use Rattle.meaning.specs.Verdicts.{verdict, passes}
 use Rattle.meaning.specs.declared.Verdict.{Verdict}
-use Rattle.meaning.proofs.Checked.{verdict-valid}
 use Rattle.codes.specs.Keys.{keyOf, ofKey}
 use Rattle.keys.specs.Parts.{KeyOk, keyFits}
 use Rattle.keys.proofs.Corners.{keys-ok, keys-rise, permitted-corners, one-keys}
@@ -396,15 +395,3 @@ module _ (op : ℕ) (a b before : List ℤ) where
 
         pub joined-all : (r : Joining) (after : List ℤ) → ((o : Operation) → operation op ≡ some o → (r ≡ madeAnswer (joinedList o a b) (length before)) × (after ≡ madeContents (joinedList o a b) before)) → JoinMade op a b before r after
         joined-all r after m = let (o, is) = op-some op low high in joined-by o is r after (m o is)
-
--- a list whose verdict passes is valid
-pub passes-valid : (ns : List ℤ) → passes (verdict ns) ≡ true → Valid (vertices ns)
-passes-valid ns e = verdict-valid ns .0 (passed (verdict ns) e) .1
-  where
-    passed : (v : Verdict) → passes v ≡ true → v ≡ Verdict.Valid
-    passed Verdict.Valid h = refl
-    passed Verdict.NotTriples h = absurd (false≢true h)
-    passed Verdict.TooMany h = absurd (false≢true h)
-    passed (Verdict.OutOfRange i) h = absurd (false≢true h)
-    passed (Verdict.NotRising i) h = absurd (false≢true h)
-    passed (Verdict.OddLine i) h = absurd (false≢true h)

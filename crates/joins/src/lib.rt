@@ -38,20 +38,6 @@ const EXCLUSIVE: u32 = 4;
 // Room for a merge of two sections.
 const ROOM: usize = 2 * MOST_VERTICES;
 
-// Whether the verdict is that the list is a travel map.
-fn is_valid(verdict: Verdict) -> bool
-    ensures { λ r. ⌜ r ≡ passes verdict ⌝ }
-{
-    match verdict {
-        Verdict::Valid => true,
-        Verdict::NotTriples => false,
-        Verdict::TooMany => false,
-        Verdict::OutOfRange(_) => false,
-        Verdict::NotRising(_) => false,
-        Verdict::OddLine(_) => false,
-    }
-}
-
 // How many vertices a result of so many numbers has room for, at most as many as a list may have.
 fn fitting(numbers: usize) -> usize
     ensures { λ r. ⌜ r ≡ min mostVertices (numbers / 3) ⌝ }
@@ -182,11 +168,11 @@ pub fn join(op: u32, a: &[i16], b: &[i16], out: &mut [i16]) -> Joining
         return Joining::BadOperation;
     }
     let first = lists::check(a);
-    if !is_valid(first) {
+    if !lists::is_valid(first) {
         return Joining::FirstRefused(first);
     }
     let second = lists::check(b);
-    if !is_valid(second) {
+    if !lists::is_valid(second) {
         return Joining::SecondRefused(second);
     }
     if op == EXCLUSIVE {

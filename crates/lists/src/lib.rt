@@ -8,7 +8,7 @@ ghost use lib.ListN.{length, getD, drop};
 ghost use Rattle.meaning.specs.Numbers.{Axis, isNumber, isCorner};
 ghost use Rattle.meaning.specs.Counting.{first};
 ghost use Rattle.meaning.specs.Lists.{vertices, numbers, mostVertices};
-ghost use Rattle.meaning.specs.Verdicts.{outsideAt, fallsAt, onOddLineAt};
+ghost use Rattle.meaning.specs.Verdicts.{outsideAt, fallsAt, onOddLineAt, passes};
 ghost use Rattle.codes.specs.Keys.{cornerAt};
 ghost use Rattle.lists.specs.Box.{goodEnd, goodEnds, boxVertices, BoxMade};
 ghost use Rattle.lists.specs.Check.{Checked, AllNumbers, InRange, AllRise, Offsets, Filled, firstOn};
@@ -234,6 +234,20 @@ pub fn check(list: &[i16]) -> Verdict
         return Verdict::OddLine(odd);
     }
     Verdict::Valid
+}
+
+// Whether the verdict is that the list is a travel map.
+pub fn is_valid(verdict: Verdict) -> bool
+    ensures { λ r. ⌜ r ≡ passes verdict ⌝ }
+{
+    match verdict {
+        Verdict::Valid => true,
+        Verdict::NotTriples => false,
+        Verdict::TooMany => false,
+        Verdict::OutOfRange(_) => false,
+        Verdict::NotRising(_) => false,
+        Verdict::OddLine(_) => false,
+    }
 }
 
 // What making a box answers.

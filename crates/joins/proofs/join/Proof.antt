@@ -2,7 +2,8 @@ use mathlib.Core.Path.{sym, ap, _∙_}
 use borrow.Author.Tests.{not-true, not-false}
 use Rattle.meaning.specs.Operations.{operation, exclusive}
 use Rattle.meaning.specs.Verdicts.{passes}
-use Rattle.joins.proofs.Whole.{bad-low, bad-high, first-refused, second-refused, joined-by, joined-all, passes-valid}
+use Rattle.meaning.proofs.Checked.{passes-valid}
+use Rattle.joins.proofs.Whole.{bad-low, bad-high, first-refused, second-refused, joined-by, joined-all}
 use borrow.Author.Needs.{needs}
 use Rattle.joins.proofs.join.Statement.{statement}
 use Rattle.joins.proofs.join.Tie as tie

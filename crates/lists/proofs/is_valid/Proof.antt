@@ -1,7 +1,7 @@
--- `asks::is_valid` meets its contract, case by case.
+-- `lists::is_valid` meets its contract, case by case.
 use borrow.Author.Needs.{needs}
-use Rattle.asks.proofs.is_valid.Statement.{statement}
-use Rattle.asks.proofs.is_valid.Tie as tie
+use Rattle.lists.proofs.is_valid.Statement.{statement}
+use Rattle.lists.proofs.is_valid.Tie as tie
 
 enum-told : tie.Need-enum-told
 enum-told c = search needs
