@@ -4,21 +4,26 @@ use Prim.Native.Nat.{_≤_}
 use native.Mathlib.Omega.{arith}
 use Rattle.meaning.specs.Lists.{mostVertices}
 use Rattle.cuts.specs.Answers.{splitValues}
+use Rattle.cuts.specs.declared.Halved.{Halved}
 use Rattle.travelmap.specs.Packed.{packedSplit}
 use borrow.Author.Needs.{needs}
 use Rattle.travelmap.proofs.pack_split.Statement.{statement}
 use Rattle.travelmap.proofs.pack_split.Tie as tie
+
+-- what the function requires of an answer
+abbrev Few : Halved → Type 0
+Few a = (splitValues a .place ≤ mostVertices) × (splitValues a .lowCount ≤ mostVertices) × (splitValues a .highCount ≤ mostVertices)
 
 enum-known-answer : tie.Need-enum-known-answer
 enum-known-answer c = search needs
 
 cast-pack : tie.Need-cast-pack
 unfolding mostVertices
-cast-pack c = let few = subst (λ a. splitValues a .highCount ≤ mostVertices) (c .before .answer .given .1) (c .before .before .before .pre .2) in omega arith
+cast-pack c = let few = subst Few (c .before .answer .given .1) (c .before .before .before .pre) in omega (arith, few .1, few .2)
 
 cast-pack-2 : tie.Need-cast-pack-2
 unfolding mostVertices
-cast-pack-2 c = let few = subst (λ a. splitValues a .lowCount ≤ mostVertices) (c .before .answer .given .1) (c .before .before .before .pre .1) in omega arith
+cast-pack-2 c = let few = subst Few (c .before .answer .given .1) (c .before .before .before .pre) in omega (arith, few .1, few .2)
 
 pack-requires : tie.Need-pack-requires
 pack-requires c κs = search needs
@@ -33,7 +38,7 @@ enum-known-answer-2 : tie.Need-enum-known-answer-2
 enum-known-answer-2 c = search needs
 
 pack-refusal-requires : tie.Need-pack-refusal-requires
-pack-refusal-requires c κs = subst (λ a. splitValues a .place ≤ mostVertices) (c .before .answer2 .given .1) (c .before .before .before .pre .0)
+pack-refusal-requires c κs = subst Few (c .before .answer2 .given .1) (c .before .before .before .pre) .0
 
 enum-told-2 : tie.Need-enum-told-2
 enum-told-2 c = search needs
