@@ -1,9 +1,9 @@
--- `bench::line::say_list` meets its contract: it ends, and reads within the list.
+-- `bench::say::say_list` meets its contract: it ends, and reads within the list.
 use Prim.Native.Nat.{_-_, _≤_}
 use lib.ListN.{length}
 use borrow.Author.Needs.{needs}
-use Rattle.bench.proofs.line.say_list.Statement.{statement}
-use Rattle.bench.proofs.line.say_list.Tie as tie
+use Rattle.bench.proofs.say.say_list.Statement.{statement}
+use Rattle.bench.proofs.say.say_list.Tie as tie
 
 abbrev Inv-loop : tie.InvT-loop
 Inv-loop list i₀ i = i ≤ length list
