@@ -30,12 +30,12 @@ use Rattle.meaning.specs.Operations.{Operation, operation, axisOf}
 use Rattle.meaning.proofs.Integers.{and-left, and-right}
 use Rattle.meaning.specs.Counting.{count, first}
 use Rattle.meaning.specs.Lists.{vertices, permitted, surrounding, howMany, mostVertices}
-use Rattle.meaning.specs.Verdicts.{outsideAt, fallsAt, onOddLineAt, unlessAt, verdictOf, verdict, refusalNumber, refusalPlace}
+use Rattle.meaning.specs.Verdicts.{outsideAt, fallsAt, onOddLineAt, unlessAt, verdictOf, verdict, passes, refusalNumber, refusalPlace}
 use Rattle.meaning.specs.declared.Verdict.{Verdict}
 use Rattle.meaning.specs.declared.Verdict.the-variants.{Valid, NotTriples, TooMany, OutOfRange, NotRising, OddLine}
 use Rattle.lists.specs.Box.{Values, valuesOf, boxValues, boxContents, BoxMade}
 use Rattle.lists.specs.declared.Boxed.{Boxed}
-use Rattle.asks.specs.Asks.{passes, cellValues, CellPromise, CornerPromise, EndsPromise, throughPlane}
+use Rattle.asks.specs.Asks.{cellValues, CellPromise, CornerPromise, EndsPromise, throughPlane}
 use Rattle.asks.specs.declared.CellAnswer.{CellAnswer}
 use Rattle.asks.specs.declared.CornerAnswer.{CornerAnswer}
 use Rattle.asks.specs.declared.Ends.{Ends}

@@ -18,10 +18,10 @@ use lib.Dec.{eqb}
 use lib.IntN.{ℤ, pos, negsuc}
 use lib.ListN.{length}
 use Rattle.meaning.specs.Numbers.{Cell, Corner}
-use Rattle.meaning.specs.Verdicts.{verdict, refusalNumber, refusalPlace}
+use Rattle.meaning.specs.Verdicts.{verdict, passes, refusalNumber, refusalPlace}
 use Rattle.meaning.specs.declared.Verdict.{Verdict}
 use Rattle.lists.specs.Box.{Values, boxValues, boxContents}
-use Rattle.asks.specs.Asks.{passes, cellValues, cellAnswer, cornerAnswer, planeEnds}
+use Rattle.asks.specs.Asks.{cellValues, cellAnswer, cornerAnswer, planeEnds}
 use Rattle.asks.specs.declared.CellAnswer.{CellAnswer}
 use Rattle.asks.specs.declared.CornerAnswer.{CornerAnswer}
 use Rattle.asks.specs.declared.Ends.{Ends}
