@@ -23,6 +23,9 @@ use Rattle.nearest.proofs.Answers.{empty-refusal, valid-list, not-empty
 use Rattle.nearest.proofs.nearest_of_map.Statement.{statement}
 use Rattle.nearest.proofs.nearest_of_map.Tie as tie
 
+returns : tie.Need-returns
+returns c = (c .before .pre, empty-refusal (c .before .args .list .now) (omega arith))
+
 -- the list, and the wish, when the wish is lifted
 abbrev start : tie.After-lift3 → tie.Start
 start c = c .before .before .before .before
@@ -63,9 +66,6 @@ module _ (c : tie.After-lift3) where
       subst (Answered (numbers c) (wish c)) (sym e)
       (answered (numbers c) (wish c) r (start c .pre)
       (subst (λ (w : Cell). Ranked (numbers c) w r) (λ i. cell (on-focus .0 i) (on-first .0 i) (on-second .0 i)) h))
-
-returns : tie.Need-returns
-returns c = (c .before .pre, empty-refusal (c .before .args .list .now) (c .if1 .taken))
 
 lift-requires : tie.Need-lift-requires
 lift-requires c κs = search needs
