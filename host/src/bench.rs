@@ -1,8 +1,10 @@
 //! Times: each function of the library beside the ordinary Rust version, on maps of four shapes and four sizes. The
 //! table that is written is Markdown.
 
+use crate::functions::program::MOST_WISHES;
 use crate::functions::FUNCTIONS;
 use crate::make::{lump_of, shells, slabs};
+use crate::make_text;
 use crate::map::{list, Corner, Grid, Paint};
 use crate::rng::Rng;
 use std::hint::black_box;
@@ -46,6 +48,12 @@ impl Case {
     /// The numbers that are asked in this turn.
     pub fn asked(&self, turn: usize) -> [i16; 3] {
         self.asked[turn % ASKED]
+    }
+
+    /// The input of the program with this map and as many wishes as there may be.
+    pub fn input(&self) -> Vec<u8> {
+        let wishes: Vec<[i16; 3]> = (0..MOST_WISHES).map(|turn| self.asked(turn)).collect();
+        make_text::text(&self.list, wishes).concat()
     }
 
     /// The case of two maps of one shape; codes between those of their vertices are asked.
@@ -158,6 +166,12 @@ impl Table {
         }
     }
 
+    /// Notes that the answers of a function to a map differ.
+    pub fn differs(&mut self, function: &str, case: &Case) {
+        self.wrong
+            .push(format!("{function}, {}, {}", case.name, case.vertices));
+    }
+
     /// Adds the line of a function and a map: both versions must give the same answers, and are then timed.
     pub fn row(
         &mut self,
@@ -167,8 +181,7 @@ impl Table {
         mut plain: impl FnMut(usize) -> u64,
     ) {
         if (0..ASKED).any(|turn| ours(turn) != plain(turn)) {
-            self.wrong
-                .push(format!("{function}, {}, {}", case.name, case.vertices));
+            self.differs(function, case);
         }
         let mut best = [f64::INFINITY; 2];
         let calls = [

@@ -4,6 +4,7 @@
 mod examples;
 mod judges;
 mod liars;
+mod texts;
 
 use crate::bench::{all_cases, Table};
 use crate::compare::{self, Lent, Run};
@@ -40,6 +41,7 @@ impl Test {
     /// Tests that the comparison reports a wrong library, with its inputs.
     pub fn reports(&mut self, name: &str, compare: impl FnOnce(&mut Run)) {
         let mut run = Run::new(SEED, CALLS);
+        run.until_wrong = true;
         compare(&mut run);
         let shown = run.shown.first().is_some_and(|text| text.contains("for "));
         self.holds(&format!("not reported: {name}"), run.wrong > 0 && shown);
@@ -141,6 +143,7 @@ pub fn selftest() -> bool {
     honest(&mut test);
     every_mask(&mut test);
     liars::liars(&mut test);
+    texts::texts(&mut test);
     times(&mut test);
     println!("{} tests, {} failed", test.tested, test.failed);
     test.failed == 0

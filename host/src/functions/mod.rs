@@ -23,9 +23,9 @@ pub mod split;
 /// The questions that are put to one list.
 const QUESTIONS: usize = 8;
 
-/// A function of the library.
+/// A function of the library, or the program.
 pub struct Function {
-    /// Its name in C.
+    /// Its name.
     pub name: &'static str,
     /// The numbers that it can answer; a long run must meet them all.
     pub numbers: &'static [u8],
@@ -35,7 +35,7 @@ pub struct Function {
     pub time: fn(&[Case], &mut Table),
 }
 
-/// A function by its C name and its module, which has the same name as the call.
+/// A function by its name and its module, which has the same name as the call.
 macro_rules! function {
     ($name:literal, $module:ident) => {
         Function {
@@ -47,7 +47,7 @@ macro_rules! function {
     };
 }
 
-/// The functions that the library has. A function is added by its line.
+/// The functions that the library has, and the program. A function is added by its line.
 /// To come: section, split.
 pub const FUNCTIONS: &[Function] = &[
     function!("travelmap_check", check),
@@ -58,6 +58,12 @@ pub const FUNCTIONS: &[Function] = &[
     function!("travelmap_join", join),
     function!("travelmap_nearest", nearest),
     function!("travelmap_nearest_distance", nearest_distance),
+    Function {
+        name: "travel",
+        numbers: program::NUMBERS,
+        compare: |run| program::compare(lib_calls::program_in_pieces, run),
+        time: |cases, table| program::time(lib_calls::program, cases, table),
+    },
 ];
 
 /// Compares a function of a list and three numbers; `number` reads the refusal in an answer.

@@ -6,6 +6,7 @@ mod check;
 mod cuts;
 mod join;
 mod nearest;
+mod program;
 mod rows;
 
 pub use asks::{cell, corner, make_box, plane};
@@ -13,6 +14,7 @@ pub use check::check;
 pub use cuts::{section, split};
 pub use join::join;
 pub use nearest::{nearest, nearest_distance};
+pub use program::program;
 
 /// The most vertices of a list.
 const MOST: usize = 1024;
