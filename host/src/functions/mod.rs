@@ -1,7 +1,8 @@
 //! One module a function: the answer that document 01 asks for, the comparison with a library's answer, and what is
 //! timed. The list below names the functions that are compared with the library.
 
-use crate::bench::{Case, Table};
+use crate::bench::Table;
+use crate::cases::{Case, Wish};
 use crate::compare::{answers, Run};
 use crate::judge::Known;
 use crate::lib_calls;
@@ -103,5 +104,29 @@ fn time_asked(
             |turn| ours(&case.list, case.asked(turn)),
             |turn| plain(&case.list, case.asked(turn)),
         );
+    }
+}
+
+/// Times a function of a list and a wish: inside the map, near it and far away.
+fn time_wishes(
+    name: &str,
+    ours: impl Fn(&[i16], [i16; 3]) -> u64,
+    plain: impl Fn(&[i16], [i16; 3]) -> u64,
+    cases: &[Case],
+    table: &mut Table,
+) {
+    for case in cases {
+        for (place, word) in [
+            (Wish::Inside, "inside"),
+            (Wish::Near, "near"),
+            (Wish::Far, "far"),
+        ] {
+            table.row(
+                &format!("{name}, {word}"),
+                case,
+                |turn| ours(&case.list, case.wish(place, turn)),
+                |turn| plain(&case.list, case.wish(place, turn)),
+            );
+        }
     }
 }

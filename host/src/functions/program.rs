@@ -2,7 +2,8 @@
 //! holds a folder of inputs and answers to the judge.
 
 use super::nearest;
-use crate::bench::{Case, Table};
+use crate::bench::Table;
+use crate::cases::Case;
 use crate::compare::Run;
 use crate::judge::{Known, DONE, EMPTY, ILL_FORMED, TOO_LONG, TOO_MANY, WRONG_SUM};
 use crate::map::MOST_VERTICES;

@@ -5,6 +5,7 @@ mod asks;
 mod check;
 mod cuts;
 mod join;
+mod lists;
 mod nearest;
 mod program;
 mod rows;
@@ -13,6 +14,7 @@ pub use asks::{cell, corner, make_box, plane};
 pub use check::check;
 pub use cuts::{section, split};
 pub use join::join;
+pub use lists::{join_by_lists, join_word_for_word};
 pub use nearest::{nearest, nearest_distance};
 pub use program::program;
 

@@ -4,6 +4,7 @@ use super::Test;
 use crate::functions::*;
 use crate::judge::{number, Known};
 use crate::map::{corners, distance, Cell, Corner, Grid};
+use crate::plain;
 use std::cell::Cell as Counter;
 
 /// One answer in so many is spoilt where a liar spoils any.
@@ -342,6 +343,9 @@ fn cuts_and_joins(test: &mut Test) {
             join::compare(call, run)
         });
     }
+    test.reports("join, two planes at one focus number", |run| {
+        join::compare(plain::join_word_for_word, run)
+    });
     test.reports("join, second list named as the first", |run| {
         let call = |operation, one: &[i16], other: &[i16], result: &mut [i16]| {
             join::judge(operation, &known(one), &known(other), result)
