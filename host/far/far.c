@@ -11,10 +11,10 @@ typedef unsigned long u64;
 typedef unsigned long size_t;
 
 enum { SLICES = 4, BESIDE = 8, MOST = 1 << 16, ALL = SLICES * (MOST + 2 * BESIDE) };
-enum { CHECK, BOX, CELL, CORNER, PLANE, SECTION, SPLIT, JOIN, NEAREST, DISTANCE };
+enum { CHECK, BOX, CELL, CORNER, PLANE, SECTION, SPLIT, JOIN, NEAREST, DISTANCE, PROGRAM };
 
 struct call {
-    u32 function, word; /* word: the axis or the operation */
+    u32 function, word; /* word: the axis, the operation or the bytes of the program's input */
     i16 number[6];
     u32 inputs, results, length[SLICES];
 };
@@ -34,6 +34,7 @@ WEAK u64 travelmap_split(const i16 *, size_t, u32, i16, i16 *, size_t, i16 *, si
 WEAK u64 travelmap_join(u32, const i16 *, size_t, const i16 *, size_t, i16 *, size_t);
 WEAK u64 travelmap_nearest(const i16 *, size_t, i16, i16, i16);
 WEAK u64 travelmap_nearest_distance(const i16 *, size_t, i16, i16, i16);
+int main(void);
 
 /* What compilers call without being asked. */
 void *memcpy(void *to, const void *from, size_t n) {
@@ -94,6 +95,32 @@ static i16 *slice[SLICES];
 #define ASKED c.number[0], c.number[1], c.number[2]
 #define DO(function, arguments) (function ? function arguments : (stop(3), 0))
 
+/* The program's standard input and output, in slices 0 and 1, and how much of each is used. */
+static size_t taken, written;
+
+long read(int file, void *to, size_t n) {
+    size_t left = c.word - taken;
+    if (file != 0) return -1;
+    if (n > left) n = left;
+    memcpy(to, (char *)slice[0] + taken, n);
+    taken += n;
+    return (long)n;
+}
+long write(int file, const void *from, size_t n) {
+    if (file != 1 || n > 2 * c.length[1] - written) return -1;
+    memcpy((char *)slice[1] + written, from, n);
+    written += n;
+    return (long)n;
+}
+
+/* Runs the program; answers how many bytes it wrote. */
+static u64 run(void) {
+    taken = written = 0;
+    if (c.inputs != 1 || c.results != 1 || c.word > 2 * c.length[0]) stop(2);
+    main();
+    return written;
+}
+
 /* Makes the call. */
 static u64 made(void) {
     switch (c.function) {
@@ -107,6 +134,7 @@ static u64 made(void) {
     case JOIN: return DO(travelmap_join, (c.word, LENT(0), LENT(1), LENT(2)));
     case NEAREST: return DO(travelmap_nearest, (LENT(0), ASKED));
     case DISTANCE: return DO(travelmap_nearest_distance, (LENT(0), ASKED));
+    case PROGRAM: return run();
     default: stop(2);
     }
     return 0;

@@ -4,6 +4,7 @@
 use crate::functions::{Function, FUNCTIONS};
 use crate::judge;
 use crate::rng::Rng;
+use std::collections::BTreeMap;
 use std::time::Instant;
 
 /// The calls of each function where no number is given.
@@ -22,6 +23,8 @@ pub struct Run {
     /// What the inputs are made from.
     pub rng: Rng,
     goal: u64,
+    /// Is it enough to know that some call differs?
+    pub until_wrong: bool,
     /// Calls made.
     pub calls: u64,
     /// Calls that differed.
@@ -29,6 +32,7 @@ pub struct Run {
     /// The first differences, with their inputs.
     pub shown: Vec<String>,
     met: [u64; NUMBERS],
+    kinds: BTreeMap<&'static str, u64>,
     start: Instant,
 }
 
@@ -38,17 +42,19 @@ impl Run {
         Run {
             rng: Rng::new(seed),
             goal,
+            until_wrong: false,
             calls: 0,
             wrong: 0,
             shown: Vec::new(),
             met: [0; NUMBERS],
+            kinds: BTreeMap::new(),
             start: Instant::now(),
         }
     }
 
     /// Are there calls left to be made?
     pub fn goes_on(&self) -> bool {
-        self.calls < self.goal
+        self.calls < self.goal && !(self.until_wrong && self.wrong > 0)
     }
 
     /// Counts one call: the number that is due, whether all was as it should be, and how to tell it if not.
@@ -61,6 +67,11 @@ impl Run {
                 self.shown.push(format!("call {}: {}", self.calls, tell()));
             }
         }
+    }
+
+    /// Counts an input of this kind.
+    pub fn kind(&mut self, name: &'static str) {
+        *self.kinds.entry(name).or_default() += 1;
     }
 
     /// Which of these numbers were never due?
@@ -81,6 +92,13 @@ impl Run {
             self.wrong,
             self.start.elapsed().as_secs_f64()
         );
+        if !self.kinds.is_empty() {
+            let kinds = self
+                .kinds
+                .iter()
+                .map(|(name, count)| format!("{name}: {count}"));
+            println!("  inputs: {}", kinds.collect::<Vec<_>>().join("; "));
+        }
         for shown in &self.shown {
             println!("  {shown}");
         }

@@ -1,7 +1,8 @@
-//! Judges the travel map library. Commands: compare (with a plain grid), program (the same of the compiled program),
-//! selftest (of the judge), bench (times).
+//! Judges the travel map library and the program. Commands: compare (with a plain grid), maps (the same of a folder of
+//! inputs and answers), program (the same of a command), selftest (of the judge), bench (times, stack and size).
 
 mod bench;
+mod cases;
 mod compare;
 mod damage;
 mod functions;
@@ -13,25 +14,30 @@ mod map;
 mod plain;
 mod rng;
 mod selftest;
+mod size;
+mod stack;
 
 use std::process::ExitCode;
 
 const USAGE: &str = "host compare [CALLS [NAME...]]   compares every function (or those named) with a plain grid, CALLS times each
+host maps FOLDER [WORD...]       holds each NAME.answer to NAME.map, and the program to both, as linked and run as these words
 host program CALLS WORD...       compares a compiled program, run as these words for each of CALLS inputs
 host selftest                    checks that the comparison reports wrong answers, and no right ones
-host bench                       times every function beside ordinary Rust, as a Markdown table";
+host bench                       times every function beside ordinary Rust, and measures stack and size: Markdown tables
+host stack                       measures the stack of every function alone";
 
 /// Runs one command: status 0 when all is as it should be, 1 when not, 2 for a wrong command.
 fn main() -> ExitCode {
     let words: Vec<String> = std::env::args().skip(1).collect();
     let calls = words.get(1).map_or(Ok(compare::CALLS), |word| word.parse());
+    let rest = words.get(2..).unwrap_or(&[]);
     let good = match (words.first().map(String::as_str), calls) {
-        (Some("compare"), Ok(calls)) => compare::compare(calls, words.get(2..).unwrap_or(&[])),
-        (Some("program"), Ok(calls)) => {
-            functions::program::compare_command(calls, words.get(2..).unwrap_or(&[]))
-        }
+        (Some("compare"), Ok(calls)) => compare::compare(calls, rest),
+        (Some("maps"), _) if words.len() > 1 => functions::program::maps_command(&words[1], rest),
+        (Some("program"), Ok(calls)) => functions::program::compare_command(calls, rest),
         (Some("selftest"), _) => selftest::selftest(),
         (Some("bench"), _) => bench::bench(),
+        (Some("stack"), _) => bench::stack_table(),
         _ => {
             eprintln!("{USAGE}");
             return ExitCode::from(2);

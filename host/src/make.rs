@@ -304,11 +304,11 @@ pub fn asked(rng: &mut Rng, vertices: &[Corner]) -> [i16; AXES] {
         let any = some_vertex(rng, vertices).0[axis] as i16;
         match (way, rng.below(6)) {
             (0, _) => any,
-            (1, _) => any + rng.pick(&NEAR),
+            (1, _) => any.wrapping_add(rng.pick(&NEAR)),
             (4, 0..=1) => rng.pick(&ASKED_NUMBERS) as i16,
             (4, 2) => rng.bits() as i16,
             (4, 3) => rng.between(LOWEST, HIGHEST_CODE) as i16,
-            _ => one.0[axis] as i16 + rng.pick(&NEAR),
+            _ => (one.0[axis] as i16).wrapping_add(rng.pick(&NEAR)),
         }
     })
 }

@@ -1,80 +1,547 @@
-//! Generated inputs of the program: map text with wishes, right and damaged.
+//! Generated inputs of the program: map text with wishes, right and damaged, by kinds. Each kind says which numbers can
+//! be due for its inputs, so that what is made and what is judged are held to each other.
 
-use crate::damage;
-use crate::functions::program::MOST_WISHES;
-use crate::make;
-use crate::map::corners;
+use crate::functions::program::{MOST_BYTES, MOST_WISHES};
+use crate::judge::check;
+use crate::map::{corners, list, MOST_VERTICES};
 use crate::rng::Rng;
+use crate::{damage, make};
 
-/// Bytes that take the place of others.
-const BYTES: &[u8] = b"0123456789ABCDEFabcfgG \n\r\t\0\xFF";
-/// Counts that do not fit the lines behind them.
-const COUNTS: [u16; 6] = [0, 1, 1024, 1025, 0x8000, 0xFFFF];
+/// A kind of input.
+pub struct Kind {
+    pub name: &'static str,
+    /// The numbers that can be due.
+    pub due: &'static [u8],
+    /// How often it is made, beside the others.
+    weight: usize,
+    /// Makes one.
+    pub make: fn(&mut Rng) -> Vec<u8>,
+}
 
-/// An input: the text of a map, valid or not, with wishes, now and then damaged.
-pub fn input(rng: &mut Rng) -> Vec<u8> {
-    let mut list = damage::mostly_valid(rng);
-    list.truncate(list.len() / 3 * 3);
-    let mut text = map_text(rng, &list).into_bytes();
-    for _ in 0..wishes(rng) {
-        let [x, y, z] = make::asked(rng, &corners(&list)).map(|n| n as u16);
-        text.extend(format!("04{x:04X}{y:04X}{z:04X}\n").bytes());
+/// A kind that is made as often as most others.
+const fn kind(name: &'static str, due: &'static [u8], make: fn(&mut Rng) -> Vec<u8>) -> Kind {
+    Kind {
+        name,
+        due,
+        weight: 4,
+        make,
     }
-    match rng.below(8) {
-        0..=1 => damage(rng, &mut text),
-        2 => {
-            damage(rng, &mut text);
-            damage(rng, &mut text);
+}
+
+/// A kind that is made more or less often.
+const fn weighed(weight: usize, kind: Kind) -> Kind {
+    Kind { weight, ..kind }
+}
+
+/// All kinds.
+pub const KINDS: &[Kind] = &[
+    weighed(40, kind("right", &[0, 7], |rng| right(rng).concat())),
+    kind("no wish", &[0, 7], |rng| {
+        text(&valid(rng), Vec::new()).concat()
+    }),
+    kind("empty map", &[7], empty_map),
+    weighed(1, kind("256 wishes", &[0, 7], |rng| so_many(rng, 0))),
+    weighed(1, kind("19,214 bytes", &[0], |rng| full(rng).concat())),
+    weighed(
+        20,
+        kind("list refused", &[3, 4, 5], |rng| refused(rng).concat()),
+    ),
+    kind("count over 1,024", &[2], too_many),
+    kind("count too large", &[10], |rng| other_count(rng, true)),
+    kind("count too small", &[10], |rng| other_count(rng, false)),
+    weighed(8, kind("wrong sum", &[11], wrong_sum)),
+    kind("wrong sum, list refused", &[11], |rng| {
+        let lines = refused(rng);
+        spoil_sum(rng, lines).concat()
+    }),
+    kind("one lower-case digit", &[10], lower_digit),
+    kind("all lower case", &[10], |rng| {
+        with_letters(rng).concat().to_ascii_lowercase()
+    }),
+    weighed(8, kind("no digit", &[10], no_digit)),
+    kind("digit missing", &[10], |rng| one_line(rng, digit_missing)),
+    kind("digit too many", &[10], |rng| one_line(rng, digit_more)),
+    kind("other tag", &[10], |rng| {
+        one_line(rng, |rng, line| other_tag(rng, line))
+    }),
+    kind("0A missing within", &[10], end_missing),
+    kind("0A missing at the end", &[10], |rng| {
+        let mut text = right(rng).concat();
+        text.pop();
+        text
+    }),
+    kind("one CR LF", &[10], |rng| one_line(rng, carriage_return)),
+    kind("all CR LF", &[10], |rng| {
+        let mut lines = right(rng);
+        lines.iter_mut().for_each(|line| carriage_return(rng, line));
+        lines.concat()
+    }),
+    weighed(8, kind("blank", &[10], |rng| one_line(rng, blank))),
+    kind("empty line", &[10], empty_line),
+    weighed(8, kind("end cut off", &[0, 7, 10], cut_off)),
+    weighed(1, kind("no input", &[10], |_| Vec::new())),
+    kind("line missing", &[10], line_missing),
+    kind("line twice", &[10], line_twice),
+    kind("lines swapped", &[10], lines_swapped),
+    kind("something behind", &[10], behind),
+    weighed(1, kind("257 wishes", &[10], |rng| so_many(rng, 1))),
+    weighed(
+        1,
+        kind("more wishes", &[10], |rng| {
+            let more = 2 + rng.below(40);
+            so_many(rng, more)
+        }),
+    ),
+    weighed(1, kind("257 wishes, one ill formed", &[10], wish_before)),
+    kind("list refused, wish ill formed", &[3, 4, 5], |rng| {
+        let lines = refused(rng);
+        ill_formed_wish(rng, lines)
+    }),
+    kind("wrong sum, wish ill formed", &[11], |rng| {
+        let lines = right(rng);
+        let lines = spoil_sum(rng, lines);
+        ill_formed_wish(rng, lines)
+    }),
+    weighed(1, kind("19,214 bytes, ill formed", &[10], full_ill_formed)),
+    weighed(1, kind("19,215 bytes", &[12], |rng| beyond(rng, 1))),
+    weighed(
+        1,
+        kind("more bytes", &[12], |rng| {
+            let more = 2 + rng.below(20_000);
+            beyond(rng, more)
+        }),
+    ),
+    weighed(
+        16,
+        kind("several faults", &[0, 2, 3, 4, 5, 7, 10, 11, 12], several),
+    ),
+    kind("any bytes", &[2, 10], any_bytes),
+];
+
+/// An input, with its kind.
+pub fn input(rng: &mut Rng) -> (&'static Kind, Vec<u8>) {
+    let all = KINDS.iter().map(|kind| kind.weight).sum();
+    let mut at = rng.below(all);
+    let chosen = KINDS.iter().find(|kind| {
+        let here = at < kind.weight;
+        at = at.saturating_sub(kind.weight);
+        here
+    });
+    let kind = chosen.unwrap_or(&KINDS[0]);
+    (kind, (kind.make)(rng))
+}
+
+/// Lines, each with its end.
+type Lines = Vec<Vec<u8>>;
+
+/// Bytes that are no digits; those beside the digits in the order of bytes are among them.
+const NO_DIGITS: &[u8] = b"/:@G`gxX+-. \t\r\0\x7F\x80\xB0\xFF";
+/// Bytes of which any text is made.
+const BYTES: &[u8] = b"0123456789ABCDEF0123456789ABCDEFabcfgG \n\n\n\r\t\0\xFF";
+/// Counts of which each is more than the most vertices.
+const TOO_MANY: [u16; 6] = [1025, 1026, 2048, 0x7FFF, 0x8000, 0xFFFF];
+/// Words that begin no line that is due.
+const TAGS: [&[u8; 2]; 9] = [
+    b"00", b"01", b"02", b"03", b"04", b"05", b"06", b"10", b"1 ",
+];
+
+/// A line of a tag and numbers.
+fn line(tag: &str, numbers: &[i16]) -> Vec<u8> {
+    let digits: String = numbers.iter().map(|n| format!("{n:04X}")).collect();
+    format!("{tag}{digits}\n").into_bytes()
+}
+
+/// The sum that closes a list.
+fn sum(list: &[i16]) -> i16 {
+    let count = (list.len() / 3) as i16;
+    list.iter().fold(count, |sum, &n| sum.wrapping_add(n))
+}
+
+/// The lines of a list and of wishes.
+pub fn text(list: &[i16], wishes: Vec<[i16; 3]>) -> Lines {
+    let vertices = list.chunks_exact(3).map(|v| line("02", v));
+    let mut lines = vec![line("01", &[(list.len() / 3) as i16])];
+    lines.extend(vertices);
+    lines.push(line("03", &[sum(list)]));
+    lines.extend(wishes.iter().map(|wish| line("04", wish)));
+    lines
+}
+
+/// The list of a valid map.
+fn valid(rng: &mut Rng) -> Vec<i16> {
+    list(&make::map(rng))
+}
+
+/// So many wishes, near the map and far away.
+fn wishes(rng: &mut Rng, list: &[i16], count: usize) -> Vec<[i16; 3]> {
+    let vertices = corners(list);
+    (0..count).map(|_| make::asked(rng, &vertices)).collect()
+}
+
+/// A right text: a map with a few wishes.
+fn right(rng: &mut Rng) -> Lines {
+    let list = valid(rng);
+    let count = rng.below(4);
+    text(&list, wishes(rng, &list, count))
+}
+
+/// A right text whose map has vertices.
+fn with_vertices(rng: &mut Rng) -> Lines {
+    loop {
+        let lines = right(rng);
+        if lines.iter().any(|line| line.starts_with(b"02")) {
+            return lines;
         }
-        _ => {}
+    }
+}
+
+/// A right text in which some digit is a letter.
+fn with_letters(rng: &mut Rng) -> Lines {
+    loop {
+        let lines = right(rng);
+        if lines.concat().iter().any(u8::is_ascii_uppercase) {
+            return lines;
+        }
+    }
+}
+
+/// The text of a list that is refused with 3, 4 or 5, with the right sum.
+fn refused(rng: &mut Rng) -> Lines {
+    loop {
+        let list = damage::any_list(rng);
+        if (3..=5).contains(&check(&list, 1).number) {
+            let count = rng.below(3);
+            return text(&list, wishes(rng, &list, count));
+        }
+    }
+}
+
+/// The empty map with wishes.
+fn empty_map(rng: &mut Rng) -> Vec<u8> {
+    let count = rng.below(4);
+    text(&[], wishes(rng, &[], count)).concat()
+}
+
+/// A short map with so many wishes more than there may be.
+fn so_many(rng: &mut Rng, more: usize) -> Vec<u8> {
+    let list = loop {
+        let list = valid(rng);
+        if list.len() <= 300 {
+            break list;
+        }
+    };
+    text(&list, wishes(rng, &list, MOST_WISHES + more)).concat()
+}
+
+/// A map of the most vertices with the most wishes: as many bytes as there may be.
+fn full(rng: &mut Rng) -> Lines {
+    let list = list(&make::lump_of(rng, MOST_VERTICES));
+    text(&list, wishes(rng, &list, MOST_WISHES))
+}
+
+/// A count over 1,024: with nothing behind it, with a right text behind it, or with as many vertices.
+fn too_many(rng: &mut Rng) -> Vec<u8> {
+    let mut lines = match rng.below(3) {
+        0 => vec![Vec::new()],
+        1 => right(rng),
+        _ => {
+            let list = list(&make::lump_of(rng, MOST_VERTICES + 2));
+            return text(&list, Vec::new()).concat();
+        }
+    };
+    lines[0] = line("01", &[rng.pick(&TOO_MANY) as i16]);
+    lines.concat()
+}
+
+/// A count that is larger, or smaller, than the number of vertices; the sum goes with the count.
+fn other_count(rng: &mut Rng, larger: bool) -> Vec<u8> {
+    loop {
+        let list = valid(rng);
+        let count = list.len() / 3;
+        let least = if larger { count + 1 } else { 0 };
+        let most = if larger { MOST_VERTICES } else { count };
+        if least >= most {
+            continue;
+        }
+        let other = match rng.below(3) {
+            0 => least + rng.below(most - least),
+            _ if larger => least,
+            _ => most - 1,
+        };
+        let count_wishes = rng.below(4);
+        let mut lines = text(&list, wishes(rng, &list, count_wishes));
+        lines[0] = line("01", &[other as i16]);
+        let closing = sum(&list).wrapping_add((other as i16).wrapping_sub(count as i16));
+        lines[count + 1] = line("03", &[closing]);
+        return lines.concat();
+    }
+}
+
+/// Changes the closing sum: by one, in one bit, or to what it is without the count.
+fn spoil_sum(rng: &mut Rng, mut lines: Lines) -> Lines {
+    let vertices = lines.iter().filter(|l| l.starts_with(b"02")).count();
+    let at = vertices + 1;
+    let digits = std::str::from_utf8(&lines[at][2..6]).unwrap_or("0");
+    let sum = u16::from_str_radix(digits, 16).unwrap_or(0);
+    let other = match rng.below(4) {
+        0 => sum.wrapping_add(1),
+        1 if vertices > 0 => sum.wrapping_sub(vertices as u16),
+        _ => sum ^ 1 << rng.below(16),
+    };
+    lines[at] = line("03", &[other as i16]);
+    lines
+}
+
+/// A right map with another sum.
+fn wrong_sum(rng: &mut Rng) -> Vec<u8> {
+    let lines = right(rng);
+    spoil_sum(rng, lines).concat()
+}
+
+/// A right text in which one line is changed.
+fn one_line(rng: &mut Rng, change: fn(&mut Rng, &mut Vec<u8>)) -> Vec<u8> {
+    let mut lines = right(rng);
+    let at = some_line(rng, &lines);
+    change(rng, &mut lines[at]);
+    lines.concat()
+}
+
+/// A line by its place: the first, the last, that of the sum or its neighbours, or any.
+fn some_line(rng: &mut Rng, lines: &Lines) -> usize {
+    let sum = lines.iter().position(|line| line.starts_with(b"03"));
+    let last = lines.len() - 1;
+    match rng.below(6) {
+        0 => 0,
+        1 => last,
+        2 => (sum.unwrap_or(0) + rng.below(3))
+            .saturating_sub(1)
+            .min(last),
+        _ => rng.below(lines.len()),
+    }
+}
+
+/// One letter becomes a small one.
+fn lower_digit(rng: &mut Rng) -> Vec<u8> {
+    let mut text = with_letters(rng).concat();
+    let letters: Vec<usize> = (0..text.len())
+        .filter(|&at| text[at].is_ascii_uppercase())
+        .collect();
+    let at = rng.pick(&letters);
+    text[at].make_ascii_lowercase();
+    text
+}
+
+/// One byte of a line, not its end, becomes one that is no digit.
+fn no_digit(rng: &mut Rng) -> Vec<u8> {
+    one_line(rng, |rng, line| {
+        let at = rng.below(line.len() - 1);
+        line[at] = rng.pick(NO_DIGITS);
+    })
+}
+
+/// A byte of a line is left out, but not its end.
+fn digit_missing(rng: &mut Rng, line: &mut Vec<u8>) {
+    let at = rng.below(line.len() - 1);
+    line.remove(at);
+}
+
+/// A line has a digit, or four, too many.
+fn digit_more(rng: &mut Rng, line: &mut Vec<u8>) {
+    let at = rng.below(line.len());
+    let count = rng.pick(&[1, 4]);
+    (0..count).for_each(|_| line.insert(at, rng.pick(b"0123456789ABCDEF")));
+}
+
+/// A line has the tag of another.
+fn other_tag(rng: &mut Rng, line: &mut [u8]) {
+    let others: Vec<&[u8; 2]> = TAGS
+        .into_iter()
+        .filter(|tag| !line.starts_with(*tag))
+        .collect();
+    let other = others[rng.below(others.len())];
+    line[..2].copy_from_slice(other);
+}
+
+/// A carriage return before the end of a line.
+fn carriage_return(_: &mut Rng, line: &mut Vec<u8>) {
+    line.insert(line.len() - 1, b'\r');
+}
+
+/// A blank in a line: before it, within it or behind it.
+fn blank(rng: &mut Rng, line: &mut Vec<u8>) {
+    let at = rng.pick(&[0, 2, line.len() / 2, line.len() - 1]);
+    line.insert(at, rng.pick(b"  \t"));
+}
+
+/// A line, not the last, has lost its end: two have become one.
+fn end_missing(rng: &mut Rng) -> Vec<u8> {
+    let mut lines = right(rng);
+    let at = some_line(rng, &lines).min(lines.len() - 2);
+    lines[at].pop();
+    lines.concat()
+}
+
+/// A line with nothing in it, before any other or behind all.
+fn empty_line(rng: &mut Rng) -> Vec<u8> {
+    let mut lines = right(rng);
+    let at = match rng.once_in(3) {
+        true => lines.len(),
+        false => some_line(rng, &lines),
+    };
+    lines.insert(at, b"\n".to_vec());
+    lines.concat()
+}
+
+/// At least one byte is missing at the end, and what is left may end with a line.
+fn cut_off(rng: &mut Rng) -> Vec<u8> {
+    let mut lines = right(rng);
+    if rng.once_in(2) {
+        lines.pop();
+        return lines.concat();
+    }
+    let mut text = lines.concat();
+    text.truncate(rng.below(text.len()));
+    text
+}
+
+/// A line that is no wish is missing.
+fn line_missing(rng: &mut Rng) -> Vec<u8> {
+    let mut lines = with_vertices(rng);
+    let at = not_a_wish(rng, &lines);
+    lines.remove(at);
+    lines.concat()
+}
+
+/// A line that is no wish stands twice.
+fn line_twice(rng: &mut Rng) -> Vec<u8> {
+    let mut lines = right(rng);
+    let at = not_a_wish(rng, &lines);
+    lines.insert(at, lines[at].clone());
+    lines.concat()
+}
+
+/// The place of a line that is no wish.
+fn not_a_wish(rng: &mut Rng, lines: &Lines) -> usize {
+    let wishes = lines.iter().filter(|l| l.starts_with(b"04")).count();
+    let map = lines.len() - wishes;
+    match rng.below(3) {
+        0 => map - 1,
+        _ => rng.below(map),
+    }
+}
+
+/// Two neighbours with different tags have changed places.
+fn lines_swapped(rng: &mut Rng) -> Vec<u8> {
+    let mut lines = right(rng);
+    let places: Vec<usize> = (1..lines.len())
+        .filter(|&at| lines[at][..2] != lines[at - 1][..2])
+        .collect();
+    let at = rng.pick(&places);
+    lines.swap(at, at - 1);
+    lines.concat()
+}
+
+/// Something stands behind a right text that is no wish.
+fn behind(rng: &mut Rng) -> Vec<u8> {
+    let mut lines = right(rng);
+    lines.push(match rng.below(5) {
+        0 => b"\0".to_vec(),
+        1 => vec![rng.pick(BYTES)],
+        2 => b"0500FFFF00000000\n".to_vec(),
+        3 => lines[0].clone(),
+        _ => b"04000000000000".to_vec(),
+    });
+    lines.concat()
+}
+
+/// A line that is no wish behind the map's lines; other wishes may follow.
+fn ill_formed_wish(rng: &mut Rng, mut lines: Lines) -> Vec<u8> {
+    let map = lines.iter().take_while(|l| !l.starts_with(b"03")).count() + 1;
+    let at = map + rng.below(lines.len() - map + 1);
+    let bad = rng.pick(&[&b"04\n"[..], b"0400000000000\n", b"\n", b"05000000000000\n"]);
+    lines.insert(at, bad.to_vec());
+    lines.concat()
+}
+
+/// One wish too many, and an ill formed one before it.
+fn wish_before(rng: &mut Rng) -> Vec<u8> {
+    let list = loop {
+        let list = valid(rng);
+        if list.len() <= 300 {
+            break list;
+        }
+    };
+    let lines = text(&list, wishes(rng, &list, MOST_WISHES));
+    ill_formed_wish(rng, lines)
+}
+
+/// As many bytes as there may be, with one line ill formed, or with a short map and many zeros behind it.
+fn full_ill_formed(rng: &mut Rng) -> Vec<u8> {
+    if rng.once_in(3) {
+        let mut text = so_many(rng, 0);
+        text.resize(MOST_BYTES, b'0');
+        return text;
+    }
+    let mut lines = full(rng);
+    let at = some_line(rng, &lines);
+    let byte = rng.below(lines[at].len());
+    lines[at][byte] = rng.pick(NO_DIGITS);
+    lines.concat()
+}
+
+/// So many bytes more than there may be: behind a full text, or behind a short one, or of any kind.
+fn beyond(rng: &mut Rng, more: usize) -> Vec<u8> {
+    let mut text = match rng.below(3) {
+        0 => full(rng).concat(),
+        1 => right(rng).concat(),
+        _ => any_bytes(rng),
+    };
+    let fill = rng.pick(b"0\n4");
+    text.resize(MOST_BYTES + more, fill);
+    text
+}
+
+/// A text of some kind with one to three faults at random: a byte, a line, the end or the length.
+fn several(rng: &mut Rng) -> Vec<u8> {
+    let mut lines = match rng.below(4) {
+        0 => refused(rng),
+        1 => {
+            let lines = right(rng);
+            spoil_sum(rng, lines)
+        }
+        _ => right(rng),
+    };
+    if rng.once_in(4) {
+        lines[0] = line("01", &[rng.pick(&[0, 1, 7, 1024, 1025, -1])]);
+    }
+    let mut text = lines.concat();
+    for _ in 0..1 + rng.below(3) {
+        fault(rng, &mut text);
     }
     text
 }
 
-/// How many wishes: mostly few, now and then about as many as there may be.
-fn wishes(rng: &mut Rng) -> usize {
-    match rng.below(40) {
-        0 => MOST_WISHES - 1 + rng.below(4),
-        _ => rng.below(4),
-    }
-}
-
-/// The text of a list, now and then with another count or sum.
-fn map_text(rng: &mut Rng, list: &[i16]) -> String {
-    let count = match rng.below(20) {
-        0 => rng.pick(&COUNTS),
-        1 => (list.len() / 3) as u16 ^ 1,
-        _ => (list.len() / 3) as u16,
-    };
-    let sum = list
-        .iter()
-        .fold(count, |sum, &n| sum.wrapping_add(n as u16));
-    let sum = match rng.below(12) {
-        0 => sum ^ 1 << rng.below(16),
-        _ => sum,
-    };
-    let mut text = format!("01{count:04X}\n");
-    for v in list.chunks_exact(3) {
-        text += &format!("02{:04X}{:04X}{:04X}\n", v[0], v[1], v[2]);
-    }
-    text + &format!("03{sum:04X}\n")
-}
-
-/// Does one damage to the text: a byte, a line, the end, or the length.
-fn damage(rng: &mut Rng, text: &mut Vec<u8>) {
+/// One fault.
+fn fault(rng: &mut Rng, text: &mut Vec<u8>) {
     let at = match rng.once_in(2) {
         true => rng.below(text.len().clamp(1, 40)),
         false => rng.below(text.len().max(1)),
     };
-    match rng.below(8) {
+    match rng.below(9) {
         0 => text.truncate(at),
         1 => drop(text.pop()),
         2 => text.push(rng.pick(BYTES)),
         3 => text.insert(at.min(text.len()), rng.pick(BYTES)),
         4 if at < text.len() => drop(text.remove(at)),
         5 => text.make_ascii_lowercase(),
-        6 => text.resize(rng.between(19_213, 19_216) as usize, b'0'),
+        6 if rng.once_in(8) => text.resize(MOST_BYTES - 1 + rng.below(3), b'0'),
         _ if at < text.len() => text[at] = rng.pick(BYTES),
         _ => {}
     }
+}
+
+/// Bytes at random.
+fn any_bytes(rng: &mut Rng) -> Vec<u8> {
+    let count = rng.below(60);
+    (0..count).map(|_| rng.pick(BYTES)).collect()
 }

@@ -4,14 +4,14 @@
 mod examples;
 mod judges;
 mod liars;
+mod tables;
+mod texts;
 
-use crate::bench::{all_cases, Table};
 use crate::compare::{self, Lent, Run};
 use crate::functions::*;
 use crate::judge::Known;
 use crate::{plain, rng::Rng};
 use std::cell::RefCell;
-use std::time::Duration;
 
 /// Calls of a wrong library; it must be reported within them.
 const CALLS: u64 = 6_000;
@@ -40,6 +40,7 @@ impl Test {
     /// Tests that the comparison reports a wrong library, with its inputs.
     pub fn reports(&mut self, name: &str, compare: impl FnOnce(&mut Run)) {
         let mut run = Run::new(SEED, CALLS);
+        run.until_wrong = true;
         compare(&mut run);
         let shown = run.shown.first().is_some_and(|text| text.contains("for "));
         self.holds(&format!("not reported: {name}"), run.wrong > 0 && shown);
@@ -87,6 +88,9 @@ fn honest(test: &mut Test) {
         split::compare(plain::split, run)
     });
     test.passes("join", join::NUMBERS, |run| join::compare(plain::join, run));
+    test.passes("join by lists", join::NUMBERS, |run| {
+        join::compare(plain::join_by_lists, run)
+    });
     test.passes("nearest", nearest::NUMBERS, |run| {
         nearest::compare(plain::nearest, run)
     });
@@ -109,27 +113,6 @@ fn every_mask(test: &mut Test) {
     test.holds(&format!("{masks} of 256 masks are met"), masks == 256);
 }
 
-/// The table of times has a line for each map, and reports a library whose answers differ.
-fn times(test: &mut Test) {
-    let [_, cases] = all_cases();
-    let mut table = Table::new(Duration::from_nanos(1));
-    check::time(plain::check, &cases, &mut table);
-    make_box::time(plain::make_box, &cases, &mut table);
-    cell::time(plain::cell, &cases, &mut table);
-    corner::time(plain::corner, &cases, &mut table);
-    plane::time(plain::plane, &cases, &mut table);
-    section::time(plain::section, &cases, &mut table);
-    split::time(plain::split, &cases, &mut table);
-    join::time(plain::join, &cases, &mut table);
-    nearest::time(plain::nearest, &cases, &mut table);
-    nearest_distance::time(plain::nearest_distance, &cases, &mut table);
-    let lines = 14 * cases.len() + 2;
-    test.holds("a line for each map", table.lines.len() == lines);
-    test.holds("answers that are timed", table.wrong.is_empty());
-    check::time(|_| 0, &cases, &mut table);
-    test.holds("wrong answers that are timed", !table.wrong.is_empty());
-}
-
 /// Runs all tests and writes what failed. Did all hold?
 pub fn selftest() -> bool {
     let mut test = Test {
@@ -141,7 +124,8 @@ pub fn selftest() -> bool {
     honest(&mut test);
     every_mask(&mut test);
     liars::liars(&mut test);
-    times(&mut test);
+    texts::texts(&mut test);
+    tables::tables(&mut test);
     println!("{} tests, {} failed", test.tested, test.failed);
     test.failed == 0
 }

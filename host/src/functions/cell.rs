@@ -1,7 +1,8 @@
 //! Is a cell permitted?
 
 use super::{compare_asked, time_asked};
-use crate::bench::{Case, Table};
+use crate::bench::Table;
+use crate::cases::Case;
 use crate::compare::Run;
 use crate::judge::{number, Known};
 use crate::map::{permits, Cell};

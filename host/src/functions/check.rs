@@ -1,6 +1,7 @@
 //! The check of a list.
 
-use crate::bench::{Case, Table};
+use crate::bench::Table;
+use crate::cases::Case;
 use crate::compare::{answers, Run};
 use crate::judge::{number, Known};
 use crate::{damage, plain};

@@ -1,8 +1,9 @@
 //! Two maps joined.
 
-use crate::bench::{Case, Table};
+use crate::bench::Table;
+use crate::cases::Case;
 use crate::compare::{answers, Lent, Run};
-use crate::judge::{fits, number, put, Answer, Known, BAD_OPERATION, NO_ROOM};
+use crate::judge::{fits, number, put, Answer, Known, BAD_OPERATION, DONE, NO_ROOM};
 use crate::map::{cuts_of, list, Grid, MOST_VERTICES};
 use crate::{damage, make, plain};
 
@@ -113,7 +114,7 @@ pub fn compare(call: impl Fn(u32, &[i16], &[i16], &mut [i16]) -> u64, run: &mut 
     }
 }
 
-/// Times a union and an overlap, of each map with another of its shape.
+/// Times each operation on each pair of maps.
 pub fn time(
     call: impl Fn(u32, &[i16], &[i16], &mut [i16]) -> u64,
     cases: &[Case],
@@ -121,18 +122,26 @@ pub fn time(
 ) {
     const ROOM: usize = 3 * MOST_VERTICES;
     for case in cases {
-        for (operation, name) in [(1, "join, union"), (2, "join, overlap")] {
-            let (mut one, mut other) = ([0; ROOM], [0; ROOM]);
-            let number = number(plain::join(operation, &case.list, &case.other, &mut other));
-            let name = match number {
-                NO_ROOM => format!("{name}, refused 6"),
-                _ => name.to_string(),
+        for (operation, name) in [
+            (1, "union"),
+            (2, "overlap"),
+            (3, "without"),
+            (4, "exclusive or"),
+        ] {
+            let (one, other) = (&case.list, &case.other);
+            let [mut ours, mut lists, mut rows] = [[0; ROOM]; 3];
+            let answer = plain::join(operation, one, other, &mut rows);
+            let result = match number(answer) {
+                DONE => answer.to_string(),
+                refused => format!("refused {refused}"),
             };
-            table.row(
-                &name,
+            table.join_row(
+                name,
                 case,
-                |_| call(operation, &case.list, &case.other, &mut one),
-                |_| plain::join(operation, &case.list, &case.other, &mut other),
+                &result,
+                |_| call(operation, one, other, &mut ours),
+                |_| plain::join_by_lists(operation, one, other, &mut lists),
+                |_| plain::join(operation, one, other, &mut rows),
             );
         }
     }

@@ -1,6 +1,7 @@
 //! The map of a box.
 
-use crate::bench::{Case, Table};
+use crate::bench::Table;
+use crate::cases::Case;
 use crate::compare::{answers, Lent, Run};
 use crate::judge::{fits, number, put, Answer, BAD_NUMBER, NO_ROOM};
 use crate::map::{list, Grid, Paint, HIGHEST, LOWEST};

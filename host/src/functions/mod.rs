@@ -1,7 +1,8 @@
 //! One module a function: the answer that document 01 asks for, the comparison with a library's answer, and what is
 //! timed. The list below names the functions that are compared with the library.
 
-use crate::bench::{Case, Table};
+use crate::bench::Table;
+use crate::cases::{Case, Wish};
 use crate::compare::{answers, Run};
 use crate::judge::Known;
 use crate::lib_calls;
@@ -23,9 +24,9 @@ pub mod split;
 /// The questions that are put to one list.
 const QUESTIONS: usize = 8;
 
-/// A function of the library.
+/// A function of the library, or the program.
 pub struct Function {
-    /// Its name in C.
+    /// Its name.
     pub name: &'static str,
     /// The numbers that it can answer; a long run must meet them all.
     pub numbers: &'static [u8],
@@ -35,7 +36,7 @@ pub struct Function {
     pub time: fn(&[Case], &mut Table),
 }
 
-/// A function by its C name and its module, which has the same name as the call.
+/// A function by its name and its module, which has the same name as the call.
 macro_rules! function {
     ($name:literal, $module:ident) => {
         Function {
@@ -47,7 +48,7 @@ macro_rules! function {
     };
 }
 
-/// The functions that the library has. A function is added by its line.
+/// The functions that the library has, and the program. A function is added by its line.
 /// To come: section, split.
 pub const FUNCTIONS: &[Function] = &[
     function!("travelmap_check", check),
@@ -58,6 +59,12 @@ pub const FUNCTIONS: &[Function] = &[
     function!("travelmap_join", join),
     function!("travelmap_nearest", nearest),
     function!("travelmap_nearest_distance", nearest_distance),
+    Function {
+        name: "travel",
+        numbers: program::NUMBERS,
+        compare: |run| program::compare(lib_calls::program_in_pieces, run),
+        time: |cases, table| program::time(lib_calls::program, cases, table),
+    },
 ];
 
 /// Compares a function of a list and three numbers; `number` reads the refusal in an answer.
@@ -97,5 +104,29 @@ fn time_asked(
             |turn| ours(&case.list, case.asked(turn)),
             |turn| plain(&case.list, case.asked(turn)),
         );
+    }
+}
+
+/// Times a function of a list and a wish: inside the map, near it and far away.
+fn time_wishes(
+    name: &str,
+    ours: impl Fn(&[i16], [i16; 3]) -> u64,
+    plain: impl Fn(&[i16], [i16; 3]) -> u64,
+    cases: &[Case],
+    table: &mut Table,
+) {
+    for case in cases {
+        for (place, word) in [
+            (Wish::Inside, "inside"),
+            (Wish::Near, "near"),
+            (Wish::Far, "far"),
+        ] {
+            table.row(
+                &format!("{name}, {word}"),
+                case,
+                |turn| ours(&case.list, case.wish(place, turn)),
+                |turn| plain(&case.list, case.wish(place, turn)),
+            );
+        }
     }
 }

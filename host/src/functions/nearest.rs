@@ -1,7 +1,8 @@
 //! The nearest permitted cell to a wish.
 
-use super::{compare_asked, time_asked};
-use crate::bench::{Case, Table};
+use super::{compare_asked, time_wishes};
+use crate::bench::Table;
+use crate::cases::Case;
 use crate::compare::Run;
 use crate::judge::{Known, DONE, EMPTY};
 use crate::map::Cell;
@@ -40,5 +41,5 @@ pub fn compare(call: impl Fn(&[i16], [i16; 3]) -> u64, run: &mut Run) {
 
 /// Times nearest.
 pub fn time(call: impl Fn(&[i16], [i16; 3]) -> u64, cases: &[Case], table: &mut Table) {
-    time_asked("nearest", call, plain::nearest, cases, table);
+    time_wishes("nearest", call, plain::nearest, cases, table);
 }

@@ -1,8 +1,9 @@
 //! The distance from a wish to the nearest permitted cell.
 
 use super::nearest::cell;
-use super::{compare_asked, time_asked};
-use crate::bench::{Case, Table};
+use super::{compare_asked, time_wishes};
+use crate::bench::Table;
+use crate::cases::Case;
 use crate::compare::Run;
 use crate::judge::{number, Answer, Known};
 use crate::map::distance;
@@ -27,5 +28,5 @@ pub fn compare(call: impl Fn(&[i16], [i16; 3]) -> u64, run: &mut Run) {
 
 /// Times a distance.
 pub fn time(call: impl Fn(&[i16], [i16; 3]) -> u64, cases: &[Case], table: &mut Table) {
-    time_asked("distance", call, plain::nearest_distance, cases, table);
+    time_wishes("distance", call, plain::nearest_distance, cases, table);
 }

@@ -1,7 +1,8 @@
 //! The plane of vertices at a focus number, as a part of the list.
 
 use super::QUESTIONS;
-use crate::bench::{Case, Table};
+use crate::bench::Table;
+use crate::cases::Case;
 use crate::compare::Run;
 use crate::judge::Known;
 use crate::{damage, make, plain};

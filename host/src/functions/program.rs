@@ -1,17 +1,22 @@
-//! The program: map text and wishes in, answer lines out. `host program` runs a compiled program on each input.
+//! The program: map text and wishes in, answer lines out. `host program` runs a command on each input, and `host maps`
+//! holds a folder of inputs and answers to the judge.
 
 use super::nearest;
+use crate::bench::Table;
+use crate::cases::Case;
 use crate::compare::Run;
 use crate::judge::{Known, DONE, EMPTY, ILL_FORMED, TOO_LONG, TOO_MANY, WRONG_SUM};
-use crate::make_text;
 use crate::map::MOST_VERTICES;
+use crate::{lib_calls, make_text, plain};
+use std::collections::BTreeMap;
 use std::io::Write;
+use std::path::Path;
 use std::process::{Command, Stdio};
 
 /// The numbers that the program can answer; 7 stands in its answer lines.
 pub const NUMBERS: &[u8] = &[0, 2, 3, 4, 5, 7, 10, 11, 12];
 /// The most bytes of its input.
-const MOST_BYTES: usize = 19_214;
+pub const MOST_BYTES: usize = 19_214;
 /// The most wishes.
 pub const MOST_WISHES: usize = 256;
 
@@ -105,20 +110,39 @@ fn answer_line(known: &Known, wish: [i16; 3]) -> String {
     format!("05{:02X}{:012X}\n", packed >> 48, packed & 0xFFFF_FFFF_FFFF)
 }
 
-/// Compares a program with the judge's: bytes in, bytes out.
+/// Compares a program with the judge's: bytes in, bytes out. The judge itself is held to what the kind of input says.
 pub fn compare(call: impl Fn(&[u8]) -> Vec<u8>, run: &mut Run) {
     while run.goes_on() {
-        let input = make_text::input(&mut run.rng);
+        let (kind, input) = make_text::input(&mut run.rng);
         let (number, due) = judge(&input);
         let given = call(&input);
-        run.count(number, given == due.as_bytes(), || {
+        run.kind(kind.name);
+        let same = given == due.as_bytes() && kind.due.contains(&number);
+        run.count(number, same, || {
             let [given, input] = [&given, &input].map(|bytes| bytes.escape_ascii());
-            format!("should write {due:?} and writes \"{given}\" for \"{input}\"")
+            let kind = kind.name;
+            format!("should write {due:?} and writes \"{given}\" for \"{input}\" ({kind})")
         });
     }
 }
 
-/// What a command writes when it is given the input; nothing where it cannot be run.
+/// Times the program on a full input: the most vertices and the most wishes.
+pub fn time(call: impl Fn(&[u8]) -> Vec<u8>, cases: &[Case], table: &mut Table) {
+    for case in cases {
+        let input = case.input();
+        if call(&input) != plain::program(&input) {
+            table.differs("program", case);
+        }
+        table.row(
+            "program",
+            case,
+            |_| call(&input).len() as u64,
+            |_| plain::program(&input).len() as u64,
+        );
+    }
+}
+
+/// What a command writes when it is given the input; nothing where it cannot be run or fails.
 fn run_command(words: &[String], input: &[u8]) -> Option<Vec<u8>> {
     let mut command = Command::new(words.first()?);
     command
@@ -128,15 +152,79 @@ fn run_command(words: &[String], input: &[u8]) -> Option<Vec<u8>> {
     let mut child = command.spawn().ok()?;
     // A program that has read enough may end first.
     let _ = child.stdin.take()?.write_all(input);
-    Some(child.wait_with_output().ok()?.stdout)
+    let output = child.wait_with_output().ok()?;
+    output.status.success().then_some(output.stdout)
+}
+
+/// What a command writes, or a word that is never due.
+fn written_by(words: &[String], input: &[u8]) -> Vec<u8> {
+    run_command(words, input).unwrap_or(b"(not run)".into())
 }
 
 /// Compares a compiled program, run once for each input. Is all as it should be?
 pub fn compare_command(calls: u64, words: &[String]) -> bool {
     let mut run = Run::new(crate::compare::SEED, calls);
-    compare(
-        |input| run_command(words, input).unwrap_or(b"(not run)".into()),
-        &mut run,
-    );
+    compare(|input| written_by(words, input), &mut run);
     run.report("program", NUMBERS)
+}
+
+/// The files of a folder: for each name its map and its answer, where they are there.
+pub type Pairs = BTreeMap<String, [Option<Vec<u8>>; 2]>;
+
+/// Reads the maps and answers of a folder.
+fn pairs(folder: &Path) -> std::io::Result<Pairs> {
+    let mut found = Pairs::new();
+    for entry in std::fs::read_dir(folder)? {
+        let path = entry?.path();
+        let ending = path.extension().and_then(|e| e.to_str());
+        let (at, Some(name)) = (
+            ["map", "answer"].iter().position(|&e| Some(e) == ending),
+            path.file_stem().and_then(|n| n.to_str()),
+        ) else {
+            continue;
+        };
+        if let Some(at) = at {
+            found.entry(name.to_string()).or_default()[at] = Some(std::fs::read(&path)?);
+        }
+    }
+    Ok(found)
+}
+
+/// What is wrong with the maps and answers: each answer must be what the judge writes and what the program writes.
+pub fn wrong_pairs(pairs: &Pairs, program: impl Fn(&[u8]) -> Vec<u8>) -> Vec<String> {
+    let wrong = |(name, pair): (&String, &[Option<Vec<u8>>; 2])| {
+        let [Some(map), Some(answer)] = pair else {
+            return Some(format!("{name} lacks its map or its answer"));
+        };
+        let due = judge(map).1;
+        let given = program(map);
+        match (answer == due.as_bytes(), given == due.as_bytes()) {
+            (true, true) => None,
+            (false, _) => Some(format!("{name}.answer is not {due:?}")),
+            _ => Some(format!(
+                "{name}: \"{}\" is written and not {due:?}",
+                given.escape_ascii()
+            )),
+        }
+    };
+    pairs.iter().filter_map(wrong).collect()
+}
+
+/// Holds a folder of maps and answers to the judge, and the program to both: the linked one, and a command where its
+/// words are given. Is all as it should be?
+pub fn maps_command(folder: &str, words: &[String]) -> bool {
+    let pairs = match pairs(Path::new(folder)) {
+        Ok(pairs) if !pairs.is_empty() => pairs,
+        _ => {
+            println!("{folder} has no maps");
+            return false;
+        }
+    };
+    let mut wrong = wrong_pairs(&pairs, lib_calls::program);
+    if !words.is_empty() {
+        wrong.extend(wrong_pairs(&pairs, |map| written_by(words, map)));
+    }
+    wrong.iter().for_each(|text| println!("  {text}"));
+    println!("{} maps, {} wrong", pairs.len(), wrong.len());
+    wrong.is_empty()
 }

@@ -21,8 +21,11 @@ enum Far {
     Join,
     Nearest,
     Distance,
+    Program,
 }
 
+/// More than the program may write, so that too much shows.
+const MOST_WRITTEN: usize = 8_192;
 /// The slices that a call has at most.
 const SLICES: usize = 4;
 /// The numbers that a call has at most, beside its slices.
@@ -194,4 +197,27 @@ pub fn nearest(list: &[i16], wish: [i16; 3]) -> u64 {
 /// The distance from a wish to the nearest permitted cell.
 pub fn nearest_distance(list: &[i16], wish: [i16; 3]) -> u64 {
     call(Far::Distance, 0, &wish, &[list], &mut [])
+}
+
+/// What the program writes for an input. Bytes are sent two to a number.
+pub fn program(input: &[u8]) -> Vec<u8> {
+    let numbers: Vec<i16> = input
+        .chunks(2)
+        .map(|two| i16::from_le_bytes([two[0], two.get(1).copied().unwrap_or(0)]))
+        .collect();
+    let mut output = vec![0; MOST_WRITTEN.div_ceil(2)];
+    let bytes_read = input.len() as u32;
+    let written = call(
+        Far::Program,
+        bytes_read,
+        &[],
+        &[&numbers],
+        &mut [&mut output],
+    );
+    bytes(&output).take(written as usize).collect()
+}
+
+/// The same: here an input comes at once.
+pub fn program_in_pieces(input: &[u8]) -> Vec<u8> {
+    program(input)
 }

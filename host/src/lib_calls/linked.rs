@@ -1,5 +1,13 @@
 //! The functions as C declares them, linked from the static library, and a safe call of each. A slice is a pointer
 //! and a length. A call that functions/mod.rs does not name is not linked, so that the library may lack it.
+//! The program is linked too: its standard input and output are here.
+
+use std::cell::RefCell;
+
+#[link(name = "travel", kind = "static")]
+extern "C" {
+    fn travel_main() -> i32;
+}
 
 #[link(name = "travelmap", kind = "static")]
 extern "C" {
@@ -130,4 +138,74 @@ pub fn nearest(list: &[i16], wish: [i16; 3]) -> u64 {
 /// The distance from a wish to the nearest permitted cell.
 pub fn nearest_distance(list: &[i16], wish: [i16; 3]) -> u64 {
     unsafe { travelmap_nearest_distance(list.as_ptr(), list.len(), wish[0], wish[1], wish[2]) }
+}
+
+/// The most bytes that the program reads or writes at a time where its input comes in pieces; 19,214 and 19,215 bytes
+/// come in several.
+const STEPS: [usize; 4] = [usize::MAX, 100, 4096, 7];
+
+/// The program's standard input and output.
+struct Pipes {
+    input: Vec<u8>,
+    taken: usize,
+    output: Vec<u8>,
+    step: usize,
+}
+
+thread_local! {
+    static PIPES: RefCell<Pipes> = const { RefCell::new(Pipes { input: Vec::new(), taken: 0, output: Vec::new(), step: 0 }) };
+}
+
+/// What the program calls to read.
+#[no_mangle]
+extern "C" fn travel_read(file: i32, to: *mut u8, count: usize) -> isize {
+    if file != 0 {
+        return -1;
+    }
+    PIPES.with_borrow_mut(|pipes| {
+        let left = &pipes.input[pipes.taken..];
+        let count = count.min(left.len()).min(pipes.step);
+        // The program lends `count` bytes to be written to.
+        unsafe { to.copy_from_nonoverlapping(left.as_ptr(), count) };
+        pipes.taken += count;
+        count as isize
+    })
+}
+
+/// What the program calls to write.
+#[no_mangle]
+extern "C" fn travel_write(file: i32, from: *const u8, count: usize) -> isize {
+    if file != 1 {
+        return -1;
+    }
+    PIPES.with_borrow_mut(|pipes| {
+        let count = count.min(pipes.step);
+        // The program lends `count` bytes to be read.
+        let lent = unsafe { std::slice::from_raw_parts(from, count) };
+        pipes.output.extend_from_slice(lent);
+        count as isize
+    })
+}
+
+/// What the program writes for an input that it gets at once.
+pub fn program(input: &[u8]) -> Vec<u8> {
+    run(input, usize::MAX)
+}
+
+/// What the program writes for an input that it gets in pieces.
+pub fn program_in_pieces(input: &[u8]) -> Vec<u8> {
+    run(input, STEPS[input.len() % STEPS.len()])
+}
+
+/// Runs the program; it reads and writes at most `step` bytes at a time.
+fn run(input: &[u8], step: usize) -> Vec<u8> {
+    PIPES.with_borrow_mut(|pipes| {
+        pipes.input.clear();
+        pipes.input.extend_from_slice(input);
+        pipes.taken = 0;
+        pipes.output.clear();
+        pipes.step = step;
+    });
+    unsafe { travel_main() };
+    PIPES.with_borrow_mut(|pipes| std::mem::take(&mut pipes.output))
 }

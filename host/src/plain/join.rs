@@ -13,6 +13,28 @@ struct Out {
 /// Joins two maps.
 #[inline(never)]
 pub fn join(operation: u32, one: &[i16], other: &[i16], result: &mut [i16]) -> u64 {
+    joined(
+        operation,
+        one,
+        other,
+        result,
+        |lists, room| match operation {
+            1 => sweep(lists, room, |a, b| a | b),
+            2 => sweep(lists, room, |a, b| a & b),
+            3 => sweep(lists, room, |a, b| a & !b),
+            _ => sweep(lists, room, |a, b| a ^ b),
+        },
+    )
+}
+
+/// Joins two maps by a sweep, which gives the numbers of the result where there is room for them.
+pub fn joined(
+    operation: u32,
+    one: &[i16],
+    other: &[i16],
+    result: &mut [i16],
+    sweep: impl Fn([&[[i16; 3]]; 2], usize) -> Option<Vec<i16>>,
+) -> u64 {
     if !(1..=4).contains(&operation) {
         return refusal(8, 0, 0);
     }
@@ -22,15 +44,7 @@ pub fn join(operation: u32, one: &[i16], other: &[i16], result: &mut [i16]) -> u
             return verdict;
         }
     }
-    let lists = [vertices(one), vertices(other)];
-    let room = result.len().min(3 * MOST);
-    let done = match operation {
-        1 => sweep(lists, room, |a, b| a | b),
-        2 => sweep(lists, room, |a, b| a & b),
-        3 => sweep(lists, room, |a, b| a & !b),
-        _ => sweep(lists, room, |a, b| a ^ b),
-    };
-    match done {
+    match sweep([vertices(one), vertices(other)], result.len().min(3 * MOST)) {
         None => refusal(6, 0, 0),
         Some(numbers) => {
             result[..numbers.len()].copy_from_slice(&numbers);

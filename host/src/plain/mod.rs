@@ -5,14 +5,18 @@ mod asks;
 mod check;
 mod cuts;
 mod join;
+mod lists;
 mod nearest;
+mod program;
 mod rows;
 
 pub use asks::{cell, corner, make_box, plane};
 pub use check::check;
 pub use cuts::{section, split};
 pub use join::join;
+pub use lists::{join_by_lists, join_word_for_word};
 pub use nearest::{nearest, nearest_distance};
+pub use program::program;
 
 /// The most vertices of a list.
 const MOST: usize = 1024;

@@ -37,25 +37,46 @@ fn best(list: &[i16], wish: [i16; 3]) -> Result<Best, u64> {
     if list.is_empty() {
         return Err(refusal(7, 0, 0));
     }
-    let all = vertices(list);
-    let wish = wish.map(i32::from);
-    let (first, second) = (Axis::new(&[all], 1), Axis::new(&[all], 2));
-    let mut search = Search {
-        row: start(wish[1], &first.numbers),
-        bit: start(wish[2], &second.numbers),
-        first,
-        second,
-        wish,
-        best: (i32::MAX, [0; 3]),
-    };
-    search.slabs(all);
-    Ok(search.best)
+    Ok(Ready::new(vertices(list)).best(wish.map(i32::from)))
+}
+
+/// A valid map that has cells, ready to be searched.
+pub struct Ready<'a> {
+    planes: Vec<&'a [[i16; 3]]>,
+    focus: Vec<i16>,
+    first: Axis,
+    second: Axis,
+}
+
+impl Ready<'_> {
+    /// The map of these vertices, made ready.
+    pub fn new(all: &[[i16; 3]]) -> Ready<'_> {
+        let planes: Vec<&[[i16; 3]]> = all.chunk_by(|a, b| a[0] == b[0]).collect();
+        Ready {
+            focus: planes.iter().map(|plane| plane[0][0]).collect(),
+            planes,
+            first: Axis::new(&[all], 1),
+            second: Axis::new(&[all], 2),
+        }
+    }
+
+    /// The nearest cell to a wish, with its distance.
+    pub fn best(&self, wish: [i32; 3]) -> Best {
+        let mut search = Search {
+            ready: self,
+            row: start(wish[1], &self.first.numbers),
+            bit: start(wish[2], &self.second.numbers),
+            wish,
+            best: (i32::MAX, [0; 3]),
+        };
+        search.slabs();
+        search.best
+    }
 }
 
 /// A search under way.
-struct Search {
-    first: Axis,
-    second: Axis,
+struct Search<'a> {
+    ready: &'a Ready<'a>,
     wish: [i32; 3],
     /// The row and the bit that are nearest to the wish.
     row: usize,
@@ -74,27 +95,31 @@ fn start(wish: i32, numbers: &[i16]) -> usize {
     not_above.saturating_sub(1).min(numbers.len() - 2)
 }
 
-impl Search {
+impl Search<'_> {
     /// Walks the slabs between neighbouring planes, up and then down from the wish.
-    fn slabs(&mut self, all: &[[i16; 3]]) {
-        let planes: Vec<&[[i16; 3]]> = all.chunk_by(|a, b| a[0] == b[0]).collect();
-        let numbers: Vec<i16> = planes.iter().map(|plane| plane[0][0]).collect();
-        let from = start(self.wish[0], &numbers);
-        let mut section = Rows::new(&self.first, &self.second);
+    fn slabs(&mut self) {
+        let Ready {
+            planes,
+            focus: numbers,
+            first,
+            second,
+        } = self.ready;
+        let from = start(self.wish[0], numbers);
+        let mut section = Rows::new(first, second);
         for plane in &planes[..=from] {
-            section.flip(plane, &self.first, &self.second);
+            section.flip(plane, first, second);
         }
         let mut below = section.clone();
         for slab in from..planes.len() - 1 {
             if slab > from {
-                section.flip(planes[slab], &self.first, &self.second);
+                section.flip(planes[slab], first, second);
             }
             if !self.rows(&section, numbers[slab], numbers[slab + 1]) {
                 break;
             }
         }
         for slab in (0..from).rev() {
-            below.flip(planes[slab + 1], &self.first, &self.second);
+            below.flip(planes[slab + 1], first, second);
             if !self.rows(&below, numbers[slab], numbers[slab + 1]) {
                 break;
             }
@@ -108,8 +133,8 @@ impl Search {
         if away > self.best.0 {
             return false;
         }
-        let _ =
-            (self.row..self.first.numbers.len() - 1).all(|row| self.bits(section, row, x, away));
+        let rows = self.ready.first.numbers.len() - 1;
+        let _ = (self.row..rows).all(|row| self.bits(section, row, x, away));
         let _ = (0..self.row)
             .rev()
             .all(|row| self.bits(section, row, x, away));
@@ -118,14 +143,14 @@ impl Search {
 
     /// Searches a row; no if it is too far away.
     fn bits(&mut self, section: &Rows, row: usize, x: i32, away: i32) -> bool {
-        let numbers = &self.first.numbers;
+        let numbers = &self.ready.first.numbers;
         let y = nearest_in(self.wish[1], numbers[row], numbers[row + 1]);
         let away = away + (y - self.wish[1]).abs();
         if away > self.best.0 {
             return false;
         }
         let bits = &section.bits[row * section.words..][..section.words];
-        let numbers = &self.second.numbers;
+        let numbers = &self.ready.second.numbers;
         let candidates = [next_bit(bits, self.bit), last_bit(bits, self.bit)];
         for bit in candidates.into_iter().flatten() {
             let z = nearest_in(self.wish[2], numbers[bit], numbers[bit + 1]);

@@ -4,6 +4,7 @@ use super::Test;
 use crate::functions::*;
 use crate::judge::{number, Known};
 use crate::map::{corners, distance, Cell, Corner, Grid};
+use crate::plain;
 use std::cell::Cell as Counter;
 
 /// One answer in so many is spoilt where a liar spoils any.
@@ -65,7 +66,6 @@ pub fn liars(test: &mut Test) {
     boxes_and_asks(test);
     cuts_and_joins(test);
     nearests(test);
-    programs(test);
 }
 
 /// One bit of an answer is wrong now and then.
@@ -343,6 +343,9 @@ fn cuts_and_joins(test: &mut Test) {
             join::compare(call, run)
         });
     }
+    test.reports("join, two planes at one focus number", |run| {
+        join::compare(plain::join_word_for_word, run)
+    });
     test.reports("join, second list named as the first", |run| {
         let call = |operation, one: &[i16], other: &[i16], result: &mut [i16]| {
             join::judge(operation, &known(one), &known(other), result)
@@ -436,35 +439,5 @@ fn nearests(test: &mut Test) {
             _ => nearest::judge(&known(list), wish),
         };
         nearest::compare(call, run)
-    });
-}
-
-/// Faults of the program.
-fn programs(test: &mut Test) {
-    let faults = [
-        ("lower-case digits", "0A", "0a"),
-        ("refusal 7 as a refusal", "0507000000000000", "06070000"),
-        ("numbers in ten", "060A", "0610"),
-        ("sum not looked at", "060B0000\n", ""),
-        ("places from 0", "060A0001", "060A0000"),
-    ];
-    for (name, due, given) in faults {
-        test.reports(&format!("program, {name}"), |run| {
-            let call = |input: &[u8]| program::judge(input).1.replace(due, given).into_bytes();
-            program::compare(call, run)
-        });
-    }
-    test.reports("program, input cut at 256 wishes", |run| {
-        let call = |input: &[u8]| {
-            let lines: Vec<&[u8]> = input.split_inclusive(|&byte| byte == b'\n').collect();
-            let wishes = lines
-                .iter()
-                .take_while(|line| !line.starts_with(b"03"))
-                .count()
-                + 1;
-            let kept = lines.len().min(wishes + 256);
-            program::judge(&lines[..kept].concat()).1.into_bytes()
-        };
-        program::compare(call, run)
     });
 }
