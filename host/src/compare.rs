@@ -5,10 +5,16 @@ use crate::functions::{Function, FUNCTIONS};
 use crate::judge;
 use crate::rng::Rng;
 use std::collections::BTreeMap;
+use std::sync::atomic::{AtomicU64, Ordering};
+use std::sync::Mutex;
 use std::time::Instant;
 
 /// The calls of each function where no number is given.
-pub const CALLS: u64 = 100_000;
+pub const CALLS: u64 = 1_000_000;
+/// The parts of a comparison, each with a seed of its own; they are shared out among the processors.
+const PARTS: u64 = 8;
+/// What makes one part's seed another than the next one's.
+const PART_SEED: u64 = 0xD1B5_4A32_D192_ED03;
 /// From so many calls on, every number that a function can answer must have been met.
 const CALLS_TO_MEET_ALL: u64 = 20_000;
 /// The differences that are written out.
@@ -66,6 +72,19 @@ impl Run {
             if self.shown.len() < SHOWN {
                 self.shown.push(format!("call {}: {}", self.calls, tell()));
             }
+        }
+    }
+
+    /// Takes in what came of another part of the same comparison.
+    fn take_in(&mut self, part: Run) {
+        self.calls += part.calls;
+        self.wrong += part.wrong;
+        self.shown.extend(part.shown);
+        self.shown.truncate(SHOWN);
+        let met = self.met.iter_mut().zip(part.met);
+        met.for_each(|(all, here)| *all += here);
+        for (name, count) in part.kinds {
+            *self.kinds.entry(name).or_default() += count;
         }
     }
 
@@ -164,12 +183,44 @@ pub fn answers(due: u64, given: u64) -> String {
     )
 }
 
-/// Compares one function in so many calls, and reports. The calls made, if all is as it should be.
+/// Makes so many calls in parts, on all processors; the inputs do not depend on how many there are.
+fn in_parts(compare: fn(&mut Run), calls: u64) -> Run {
+    let next = AtomicU64::new(0);
+    let whole = Mutex::new(Run::new(SEED, calls));
+    let work = || loop {
+        let part = next.fetch_add(1, Ordering::Relaxed);
+        if part >= PARTS {
+            return;
+        }
+        let goal = calls / PARTS + u64::from(part < calls % PARTS);
+        let mut run = Run::new(SEED ^ part.wrapping_mul(PART_SEED), goal);
+        compare(&mut run);
+        if let Ok(mut whole) = whole.lock() {
+            whole.take_in(run);
+        }
+    };
+    std::thread::scope(|scope| {
+        let threads = std::thread::available_parallelism().map_or(1, |n| n.get());
+        (0..threads).for_each(|_| drop(scope.spawn(work)));
+    });
+    whole
+        .into_inner()
+        .unwrap_or_else(|broken| broken.into_inner())
+}
+
+/// Compares one function in so many calls, and in all calls of its short list of cases where the run is a long one,
+/// and reports. The calls made, if all is as it should be.
 fn compare_one(function: &Function, calls: u64) -> Option<u64> {
-    let mut run = Run::new(SEED, calls);
-    (function.compare)(&mut run);
-    run.report(function.name, function.numbers)
-        .then_some(run.calls)
+    let run = in_parts(function.compare, calls);
+    let mut good = run.report(function.name, function.numbers) && run.calls >= calls;
+    let mut made = run.calls;
+    if let (Some(every), true) = (function.every, calls >= CALLS_TO_MEET_ALL) {
+        let mut run = Run::new(SEED, 0);
+        every(&mut run);
+        good &= run.report(&format!("{}, every case", function.name), &[judge::DONE]);
+        made += run.calls;
+    }
+    good.then_some(made)
 }
 
 /// Compares every function, or those that are named, and writes the last line. Is all as it should be?

@@ -21,6 +21,14 @@ const HONEST_CALLS: u64 = 20_000;
 const SEED: u64 = 0x6C69_6172;
 const HONEST_SEED: u64 = 0x7472_7565;
 
+/// A join as it is called.
+type Join = fn(u32, &[i16], &[i16], &mut [i16]) -> u64;
+/// The joins of ordinary Rust.
+const JOINS: [(&str, Join); 2] = [
+    ("rows of bits", plain::join),
+    ("lists", plain::join_by_lists),
+];
+
 /// What was tested, and what failed.
 pub struct Test {
     tested: usize,
@@ -99,10 +107,21 @@ fn honest(test: &mut Test) {
     });
 }
 
-/// A comparison of corner reports, as long as it is by default, asks for each of the 256 masks.
+/// Every join of small sets of cells is made, and right joins pass.
+fn every_join(test: &mut Test) {
+    for (name, call) in JOINS {
+        let mut run = Run::new(SEED, 0);
+        join::compare_every(call, &mut run);
+        run.shown.iter().for_each(|text| println!("  {text}"));
+        let all = run.calls == 4 * 256 * 256 && run.wrong == 0;
+        test.holds(&format!("every small join, {name}"), all);
+    }
+}
+
+/// A comparison of corner reports, a tenth as long as it is by default, asks for each of the 256 masks.
 fn every_mask(test: &mut Test) {
     let met = RefCell::new([false; 256]);
-    let mut run = Run::new(compare::SEED, compare::CALLS);
+    let mut run = Run::new(compare::SEED, compare::CALLS / 10);
     let call = |list: &[i16], asked| {
         let answer = plain::corner(list, asked);
         met.borrow_mut()[(answer & 255) as usize] = true;
@@ -123,6 +142,7 @@ pub fn selftest() -> bool {
     judges::judges(&mut test);
     honest(&mut test);
     every_mask(&mut test);
+    every_join(&mut test);
     liars::liars(&mut test);
     texts::texts(&mut test);
     tables::tables(&mut test);

@@ -114,6 +114,48 @@ pub fn compare(call: impl Fn(u32, &[i16], &[i16], &mut [i16]) -> u64, run: &mut 
     }
 }
 
+/// The list of a set of cells of a block of two by two by two, one bit a cell.
+fn list_of_cells(cells: u8) -> Vec<i16> {
+    let mut grid = Grid::empty([0; 3].map(|_| vec![-1, 0, 1]));
+    grid.fill(|[i, j, k]| cells >> (4 * (i - 1) + 2 * (j - 1) + (k - 1)) & 1 == 1);
+    list(&grid.list())
+}
+
+/// Does an operation on two sets of cells, one bit a cell.
+fn cells_joined(operation: u32, one: u8, other: u8) -> u8 {
+    let bits = (0..8).filter(|bit| holds(operation, one >> bit & 1 == 1, other >> bit & 1 == 1));
+    bits.map(|bit| 1 << bit).sum()
+}
+
+/// Compares every join of two sets of cells of a block of two by two by two, in results that just fit.
+pub fn compare_every(call: impl Fn(u32, &[i16], &[i16], &mut [i16]) -> u64, run: &mut Run) {
+    let lists: Vec<Vec<i16>> = (0..=255).map(list_of_cells).collect();
+    let kept = lists.clone();
+    for (one, other) in (0..=255).flat_map(|one| (0..=255).map(move |other| (one, other))) {
+        for operation in 1..=4 {
+            let due_list = &lists[usize::from(cells_joined(operation, one, other))];
+            let mut due_result = Lent::new(&mut run.rng, due_list.len());
+            let mut result = due_result.clone();
+            put(due_list, due_result.slice());
+            let due = due_list.len() as u64 / 3;
+            let [a, b] = [one, other].map(|cells| &lists[usize::from(cells)]);
+            let given = call(operation, a, b, result.slice());
+            run.count(number(due), given == due && result == due_result, || {
+                format!(
+                    "{}, {}, for operation {operation} of {a:?} and {b:?}",
+                    answers(due, given),
+                    due_result.difference(&result)
+                )
+            });
+        }
+    }
+    if lists != kept {
+        run.count(DONE, false, || {
+            "a list was written to, for some operation".into()
+        });
+    }
+}
+
 /// Times each operation on each pair of maps.
 pub fn time(
     call: impl Fn(u32, &[i16], &[i16], &mut [i16]) -> u64,

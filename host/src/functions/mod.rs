@@ -32,6 +32,8 @@ pub struct Function {
     pub numbers: &'static [u8],
     /// Compares it with the judge.
     pub compare: fn(&mut Run),
+    /// Compares it with the judge in every one of some small cases, where there are such.
+    pub every: Option<fn(&mut Run)>,
     /// Times it beside the ordinary Rust version.
     pub time: fn(&[Case], &mut Table),
 }
@@ -43,6 +45,7 @@ macro_rules! function {
             name: $name,
             numbers: $module::NUMBERS,
             compare: |run| $module::compare(lib_calls::$module, run),
+            every: None,
             time: |cases, table| $module::time(lib_calls::$module, cases, table),
         }
     };
@@ -56,13 +59,17 @@ pub const FUNCTIONS: &[Function] = &[
     function!("travelmap_cell", cell),
     function!("travelmap_corner", corner),
     function!("travelmap_plane", plane),
-    function!("travelmap_join", join),
+    Function {
+        every: Some(|run| join::compare_every(lib_calls::join, run)),
+        ..function!("travelmap_join", join)
+    },
     function!("travelmap_nearest", nearest),
     function!("travelmap_nearest_distance", nearest_distance),
     Function {
         name: "travel",
         numbers: program::NUMBERS,
         compare: |run| program::compare(lib_calls::program_in_pieces, run),
+        every: None,
         time: |cases, table| program::time(lib_calls::program, cases, table),
     },
 ];

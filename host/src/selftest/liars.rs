@@ -346,6 +346,18 @@ fn cuts_and_joins(test: &mut Test) {
     test.reports("join, two planes at one focus number", |run| {
         join::compare(plain::join_word_for_word, run)
     });
+    test.reports("every join, two planes at one focus number", |run| {
+        join::compare_every(plain::join_word_for_word, run)
+    });
+    test.reports("every join, one pair wrong", |run| {
+        let turn = Counter::new(0);
+        let call = |operation, one: &[i16], other: &[i16], result: &mut [i16]| {
+            turn.set(turn.get() + 1);
+            let answer = plain::join(operation, one, other, result);
+            answer + u64::from(turn.get() == 200_001)
+        };
+        join::compare_every(call, run)
+    });
     test.reports("join, second list named as the first", |run| {
         let call = |operation, one: &[i16], other: &[i16], result: &mut [i16]| {
             join::judge(operation, &known(one), &known(other), result)
