@@ -13,7 +13,7 @@
 --   vertices-begin, sum-well, sum-bad, wishes-begin    the vertices' lines, the closing line and the wishes' lines begin where they are read
 --   wish-there               a wish line that is due has a byte
 use mathlib.Core.Path.{_≡_, refl, sym, _∙_, ap, subst}
-use mathlib.Core.Bool.{Bool, true, false, _&&_, cond, true≢false, false≢true}
+use mathlib.Core.Bool.{Bool, true, false, _&&_, cond, true≢false}
 use mathlib.Core.List.{List}
 use Prim.Native.Nat.{ℕ, zero, suc, _+_, _-_, _*_, _≤_, _<_}
 use native.Mathlib.Omega.{arith}
