@@ -4,9 +4,9 @@
 --   answered                        the least rank, taken apart, is the answer
 --   settled                         two answers that the wording allows are equal
 -- Assumes nothing.
-use mathlib.Core.Path.{_≡_, refl, sym, _∙_, ap, ap₂, subst}
-use mathlib.Core.Logic.{_⊎_, inl, inr}
-use mathlib.Core.Bool.{Bool, true, false, true≢false}
+use mathlib.Core.Path.{_≡_, refl, sym, _∙_, ap, subst}
+use mathlib.Core.Logic.{inl, inr}
+use mathlib.Core.Bool.{true≢false}
 use mathlib.Core.List.{List, [], _∷_}
 use Prim.Native.Nat.{ℕ, zero, suc, _/_, _%_, _<_}
 use native.Mathlib.Omega.{arith}
@@ -25,9 +25,9 @@ use Rattle.meaning.proofs.Closest.{nearest-unique}
 use Rattle.lists.proofs.Vertices.{length-vertices}
 use Rattle.nearest.specs.declared.Found.{Found}
 use Rattle.nearest.specs.declared.Found.the-variants.{At, Empty, Refused}
-use Rattle.nearest.specs.Answer.{outcome, Answered}
+use Rattle.nearest.specs.Answer.{Answered}
 use Rattle.nearest.specs.Search.{Ranked}
-use Rattle.nearest.proofs.Ranks.{cellOf, ranked-nearest}
+use Rattle.nearest.proofs.Ranks.{ranked-nearest}
 
 pub refused-some : (v : Verdict) → OneOf (1 ∷ 2 ∷ 3 ∷ 4 ∷ 5 ∷ []) (denote.Enum.Declared.tagOf Rattle.meaning.proofs.Verdict.the-type v) → 0 < refusalNumber v
 refused-some Valid h = absurd (none h)

@@ -1,7 +1,9 @@
 -- The least of a number and of the ranks of a set.
---   best-none, best-then, best-as
+--   best-none    nothing of the set is better
+--   best-then    one set after another
+--   best-as      a set that has one no higher for each member of another
 -- Assumes nothing.
-use mathlib.Core.Path.{_≡_, refl, sym, _∙_, ap}
+use mathlib.Core.Path.{_≡_, refl, sym, _∙_, subst}
 use mathlib.Core.Logic.{_⊎_, inl, inr}
 use Prim.Native.Nat.{ℕ, _≤_}
 use native.Mathlib.Omega.{arith}
@@ -28,7 +30,7 @@ best-then R S T m r s f g cover h k =
 
     first : s ≡ r → (r ≡ m) ⊎ R r → (s ≡ m) ⊎ T s
     first e (inl p) = inl (e ∙ p)
-    first e (inr a) = inr (mathlib.Core.Path.subst T (sym e) (f r a))
+    first e (inr a) = inr (subst T (sym e) (f r a))
 
     from : (s ≡ r) ⊎ S s → (s ≡ m) ⊎ T s
     from (inl e) = first e (h .from)

@@ -3,12 +3,12 @@
 --   distance-apart     the distance of a cell from a wish
 -- These and `Brought` are all that the search knows of the distance: its cost on each axis is a weight times a difference, and costs are added.
 -- Assumes nothing.
-use mathlib.Core.Path.{_≡_, refl, sym, _∙_, ap, ap₂}
-use mathlib.Core.Bool.{Bool, true, false, cond}
-use Prim.Native.Nat.{ℕ, zero, suc, _+_, _-_, _*_, _≤_, _<_}
+use mathlib.Core.Path.{_≡_, refl, _∙_, ap, ap₂}
+use mathlib.Core.Bool.{Bool, true, false}
+use Prim.Native.Nat.{ℕ, zero, suc, _+_, _-_, _*_}
 use native.Mathlib.Omega.{arith}
 use lib.Dec.{ltb}
-use lib.IntN.{ℤ, pos, negsuc, subℕ, natAbs, _-ℤ_}
+use lib.IntN.{ℤ, pos, negsuc, subℕ, natAbs}
 use borrow.Author.Tests.{ltb-true, ltb-false, le-leb}
 use Rattle.meaning.specs.Numbers.{focus, first, second, cell, number}
 use Rattle.meaning.specs.Nearest.{gap, weight, distance}

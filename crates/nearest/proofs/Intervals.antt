@@ -2,11 +2,11 @@
 --   Walking                          so far the line is walked
 --   walk-begins, walk-on, walk-done  the first, each and the last turn
 -- Assumes nothing.
-use mathlib.Core.Path.{_≡_, refl, sym, _∙_, ap, ap₂, subst}
-use mathlib.Core.Logic.{_⊎_, inl, inr}
-use mathlib.Core.Bool.{Bool, true, false, not}
+use mathlib.Core.Path.{_≡_, refl, sym, _∙_, ap, subst}
+use mathlib.Core.Logic.{inr}
+use mathlib.Core.Bool.{Bool, true, false}
 use mathlib.Core.List.{List, [], _∷_, _++_}
-use Prim.Native.Nat.{ℕ, suc, _+_, _/_, _%_, _≤_, _<_, min}
+use Prim.Native.Nat.{ℕ, _+_, _≤_, _<_}
 use native.Mathlib.Omega.{arith}
 use native.Mathlib.Numerals.{add-one}
 use lib.Dec.{ltb}
@@ -17,7 +17,6 @@ use Rattle.meaning.proofs.Parity.{_⊕_, ⊕-false, ⊕-self, sum, sum-append}
 use Rattle.rising.specs.Merged.{From}
 use Rattle.nearest.specs.Search.{Best, Least, Rank, point, value, high, rest, highAt, Cut, Run, Section, Between, lineIn}
 use Rattle.nearest.specs.declared.values.Scale.{Scale}
-use Rattle.nearest.proofs.Best.{best-none, best-then}
 use Rattle.nearest.proofs.Sweep.{slab-none, slab-two, slab-all, rank-stop}
 use Rattle.nearest.proofs.Runs.{from-lt, high-mono, high-in, high-out, high-end, turn, turn-high, turn-none, turn-void, section-none}
 

@@ -8,9 +8,9 @@
 -- Assumes nothing.
 use mathlib.Core.Path.{_≡_, refl, sym, _∙_, ap, ap₂, subst}
 use mathlib.Core.Logic.{_⊎_, inl, inr}
-use mathlib.Core.Bool.{Bool, true, false, _&&_, _||_, true≢false, and-true}
+use mathlib.Core.Bool.{true, false, _&&_, _||_, and-true}
 use mathlib.Core.List.{List, [], _∷_, map}
-use Prim.Native.Nat.{ℕ, suc, _+_, _-_, _*_, _/_, _%_, _^_, _≤_, _<_}
+use Prim.Native.Nat.{ℕ, _+_, _-_, _*_, _/_, _%_, _≤_, _<_}
 use native.Mathlib.Nat.{mul-add}
 use native.Mathlib.Omega.{arith}
 use borrow.Author.Tests.{ltb-true, le-ltb}
@@ -19,17 +19,17 @@ use lib.IntN.{ℤ}
 use lib.Signed.{leZ}
 use lib.ListN.{length}
 use Rattle.meaning.specs.Numbers.{focus, first, second, Cell, Corner, cell, isCode, isCell, lowest, number, steps}
-use Rattle.meaning.specs.Lists.{vertices, permitted, Valid, earlier}
+use Rattle.meaning.specs.Lists.{vertices, permitted, Valid}
 use Rattle.meaning.specs.Nearest.{weight, distance, lower, Nearest}
 use Rattle.meaning.proofs.Parity.{sum, sum-ext}
 use Rattle.meaning.proofs.Integers.{number-steps, number-isCode, number-lt, number-le, and-left, and-right}
 use Rattle.meaning.proofs.Maps.{valid-within, some-permitted}
-use Rattle.codes.specs.Keys.{keyOf, restOf, lineOf, lastOf}
+use Rattle.codes.specs.Keys.{keyOf, restOf, lastOf}
 use Rattle.codes.specs.Lift.{lowered}
 use Rattle.codes.proofs.Tests.{lex}
 use Rattle.keys.specs.Parts.{keyFits}
 use Rattle.keys.proofs.Corners.{permitted-corners}
-use Rattle.nearest.specs.Search.{apart, value, Sound, Best, Depth, Rank, mapIn, rankOf, Ranked, Brought}
+use Rattle.nearest.specs.Search.{apart, value, Best, Depth, Rank, mapIn, rankOf, Ranked, Brought}
 use Rattle.nearest.specs.declared.values.Scale.{Scale}
 use Rattle.nearest.proofs.Costs.{value-small}
 use Rattle.nearest.proofs.Distances.{distance-apart}

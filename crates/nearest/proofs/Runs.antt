@@ -10,9 +10,9 @@
 -- Assumes nothing.
 use mathlib.Core.Path.{_≡_, refl, sym, _∙_, ap, ap₂, subst}
 use mathlib.Core.Logic.{_⊎_, inl, inr}
-use mathlib.Core.Bool.{Bool, true, false, not, cond}
+use mathlib.Core.Bool.{Bool, true, false, cond}
 use mathlib.Core.List.{List, [], _∷_, _++_, map}
-use Prim.Native.Nat.{ℕ, zero, suc, _+_, _-_, _*_, _/_, _%_, _^_, _≤_, _<_, min}
+use Prim.Native.Nat.{ℕ, zero, suc, _+_, _-_, _*_, _/_, _^_, _≤_, _<_, min}
 use native.Mathlib.Omega.{arith}
 use native.Mathlib.Nat.{div-add-mod', div-mul-le-self, le-div-iff-mul-le, div-lt-iff-lt-mul, add-mul}
 use lib.Dec.{ltb, eqb}
@@ -22,7 +22,7 @@ use lib.ListN.{length, getD, take, drop, length-map, length-take}
 use lib.Seq.{take-at, take-add, getD-take, getD-drop, length-take-le}
 use borrow.Author.Tests.{lt-ltb, le-ltb, ltb-true, ltb-false}
 use Rattle.meaning.specs.Counting.{All}
-use Rattle.meaning.proofs.Parity.{_⊕_, ⊕-assoc, ⊕-self, ⊕-false, sum, sum-append, sum-map, sum-all}
+use Rattle.meaning.proofs.Parity.{_⊕_, ⊕-assoc, ⊕-self, ⊕-false, sum, sum-append, sum-map}
 use Rattle.rising.specs.Merged.{From, merged, lessBase, plusBase}
 use Rattle.rising.proofs.Sums.{sum-merged, from-less, from-merged, no-longer}
 use Rattle.nearest.specs.Search.{Best, Least, Depth, Rank, Slab, Section, high, rest, highAt, Cut, Run}

@@ -1,12 +1,13 @@
 -- The sweep of one axis, plane by plane or line by line: upward and downward from a cut, with the section of all that lies below at hand.
+--   high-here, below-high, between-high         the high part at a place, before a cut, and between two
 --   slice-of, slice-high, slice-turn            a slab, by the cells of its section
 --   nothing-better                              a stretch without a better cell
 --   Sweeping                                    so far the sweep has come
---   sweep-begins, sweep-on, sweep-over          the first, each further and the last slab
+--   sweep-begins, section-ahead, sweep-on, sweep-over    the first, each further and the last slab
 --   Sinking, sink-begins, sink-on, sink-over    the same downward
---   first-cut, sweep-none, sweep-whole          nothing lies below the first number; below a place and from there up is everywhere
+--   sweep-whole                                 below a place and from there up is everywhere
 -- Assumes nothing.
-use mathlib.Core.Path.{_≡_, refl, sym, _∙_, ap, subst}
+use mathlib.Core.Path.{_≡_, refl, sym, _∙_, subst}
 use mathlib.Core.Logic.{_⊎_, inl, inr}
 use mathlib.Core.Bool.{Bool, true, false}
 use mathlib.Core.List.{List}
@@ -170,12 +171,6 @@ module _ (unit : ℕ) (u : 0 < unit) (scale : Scale) (D : Depth) (l : List ℕ) 
 -- ---- the whole range
 
 module _ (unit : ℕ) (u : 0 < unit) (scale : Scale) (D : Depth) (l : List ℕ) (rises : From 0 l) (base : ℕ) where
-  pub first-cut : Cut (high unit) l 0
-  first-cut = record { within = omega arith; apart = λ j k p q r. absurd (omega arith) }
-
-  pub sweep-none : (m : ℕ) → Best (Between unit scale D l 0 (highAt (high unit) l 0) base) m m
-  sweep-none m = turn-none (high unit) (rest unit) (value scale) D l base (high-mono unit u l rises) m
-
   -- what lies below a place, and then what lies from there up
   pub sweep-whole : (i m r s : ℕ) → Best (Between unit scale D l 0 (highAt (high unit) l i) base) m r → Best (Between unit scale D l (highAt (high unit) l i) 1024 base) r s → Best (Rank (axisOver unit scale D) l base) m s
   sweep-whole i m r s h k =

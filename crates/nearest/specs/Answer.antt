@@ -11,7 +11,6 @@ use Rattle.meaning.specs.Numbers.{Cell, cell}
 use Rattle.meaning.specs.Lists.{vertices, permitted}
 use Rattle.meaning.specs.Verdicts.{verdict, refusalNumber, refusalPlace}
 use Rattle.meaning.specs.Nearest.{distance, Nearest, nearestRefusal}
-use Rattle.meaning.specs.declared.Verdict.{Verdict}
 use Rattle.meaning.specs.declared.Verdict.the-variants.{Valid}
 use Rattle.nearest.specs.declared.Found.{Found}
 use Rattle.nearest.specs.declared.Found.the-variants.{At, Empty, Refused}

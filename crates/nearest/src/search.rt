@@ -230,28 +230,27 @@ fn behind(list: &[u32], scale: Scale, unit: u32, base: u64, found: u64, i: usize
     Step::Slab(run_start(list, i, unit), base + least(scale, low, high))
 }
 
-// The same of the cells of a section, from the line at place start up. The first count numbers of room are the cells' line just below it.
+// The same of the cells of a section, from the place begun with up; room holds the cells' line just below it.
 fn strips_up(
     section: &[u32],
     first: Scale,
     second: Scale,
     base: u64,
     best: u64,
-    start: usize,
-    count: usize,
+    begun: Beginning,
     room: &mut [u32],
     other: &mut [u32],
 ) -> u64
     requires { ⌜ From 0 (now section) ⌝ }
     requires { ⌜ Sound first × Sound second ⌝ }
     requires { ⌜ base < 2 ^ 50 ⌝ }
-    requires { ⌜ Begun 2048 (now section) (now room) start count ⌝ }
+    requires { ⌜ Begun 2048 (now section) (now room) (begun .place) (begun .count) ⌝ }
     requires { ⌜ (length (now section) ≤ length (now room)) × (length (now section) + length (now section) ≤ length (now other)) ⌝ }
-    ensures { λ r. ⌜ Best (Between 2048 first (lineIn second) (now (section .entry)) (highAt (high 2048) (now (section .entry)) start) 1024 base) best r ⌝ }
+    ensures { λ r. ⌜ Best (Between 2048 first (lineIn second) (now (section .entry)) (highAt (high 2048) (now (section .entry)) (begun .place)) 1024 base) best r ⌝ }
 {
     let mut found = best;
-    let mut i = start;
-    let mut m = count;
+    let mut i = begun.place;
+    let mut m = begun.count;
     loop {
         let Step::Slab(place, rank) = ahead(section, first, LINE, base, found, i) else {
             return found;
@@ -262,28 +261,27 @@ fn strips_up(
     }
 }
 
-// The same of the cells of a section below the line at place start.
+// The same of the cells of a section below the place begun with.
 fn strips_down(
     section: &[u32],
     first: Scale,
     second: Scale,
     base: u64,
     best: u64,
-    start: usize,
-    count: usize,
+    begun: Beginning,
     room: &mut [u32],
     other: &mut [u32],
 ) -> u64
     requires { ⌜ From 0 (now section) ⌝ }
     requires { ⌜ Sound first × Sound second ⌝ }
     requires { ⌜ base < 2 ^ 50 ⌝ }
-    requires { ⌜ Begun 2048 (now section) (now room) start count ⌝ }
+    requires { ⌜ Begun 2048 (now section) (now room) (begun .place) (begun .count) ⌝ }
     requires { ⌜ (length (now section) ≤ length (now room)) × (length (now section) + length (now section) ≤ length (now other)) ⌝ }
-    ensures { λ r. ⌜ Best (Between 2048 first (lineIn second) (now (section .entry)) 0 (highAt (high 2048) (now (section .entry)) start) base) best r ⌝ }
+    ensures { λ r. ⌜ Best (Between 2048 first (lineIn second) (now (section .entry)) 0 (highAt (high 2048) (now (section .entry)) (begun .place)) base) best r ⌝ }
 {
     let mut found = best;
-    let mut i = start;
-    let mut m = count;
+    let mut i = begun.place;
+    let mut m = begun.count;
     loop {
         let Step::Slab(place, rank) = behind(section, first, LINE, base, found, i) else {
             return found;
@@ -315,41 +313,18 @@ fn strips(
         return best;
     }
     let begun = begin(section, first.wish, LINE, line, spare, other);
-    let place = begun.place;
-    let count = begun.count;
-    let found = strips_down(
-        section,
-        first,
-        second,
-        base,
-        best,
-        place,
-        count,
-        line,
-        other,
-    );
-    strips_up(
-        section,
-        first,
-        second,
-        base,
-        found,
-        place,
-        count,
-        spare,
-        other,
-    )
+    let found = strips_down(section, first, second, base, best, begun, line, other);
+    strips_up(section, first, second, base, found, begun, spare, other)
 }
 
-// The same of the cells of a map, from the plane at place start up. The first count numbers of room are the section just below it.
+// The same of the cells of a map, from the place begun with up; room holds the section just below it.
 fn planes_up(
     keys: &[u32],
     focus: Scale,
     first: Scale,
     second: Scale,
     best: u64,
-    start: usize,
-    count: usize,
+    begun: Beginning,
     room: &mut [u32],
     line: &mut [u32],
     spare: &mut [u32],
@@ -357,13 +332,13 @@ fn planes_up(
 ) -> u64
     requires { ⌜ From 0 (now keys) ⌝ }
     requires { ⌜ Sound focus × Sound first × Sound second ⌝ }
-    requires { ⌜ Begun 2099200 (now keys) (now room) start count ⌝ }
+    requires { ⌜ Begun 2099200 (now keys) (now room) (begun .place) (begun .count) ⌝ }
     requires { ⌜ (length (now keys) ≤ length (now room)) × (length (now keys) ≤ length (now line)) × (length (now keys) ≤ length (now spare)) × (length (now keys) + length (now keys) ≤ length (now other)) ⌝ }
-    ensures { λ r. ⌜ Best (Between 2099200 focus (sectionIn first second) (now (keys .entry)) (highAt (high 2099200) (now (keys .entry)) start) 1024 0) best r ⌝ }
+    ensures { λ r. ⌜ Best (Between 2099200 focus (sectionIn first second) (now (keys .entry)) (highAt (high 2099200) (now (keys .entry)) (begun .place)) 1024 0) best r ⌝ }
 {
     let mut found = best;
-    let mut i = start;
-    let mut m = count;
+    let mut i = begun.place;
+    let mut m = begun.count;
     loop {
         let Step::Slab(place, rank) = ahead(keys, focus, PLANE, 0, found, i) else {
             return found;
@@ -374,15 +349,14 @@ fn planes_up(
     }
 }
 
-// The same of the cells of a map below the plane at place start.
+// The same of the cells of a map below the place begun with.
 fn planes_down(
     keys: &[u32],
     focus: Scale,
     first: Scale,
     second: Scale,
     best: u64,
-    start: usize,
-    count: usize,
+    begun: Beginning,
     room: &mut [u32],
     line: &mut [u32],
     spare: &mut [u32],
@@ -390,13 +364,13 @@ fn planes_down(
 ) -> u64
     requires { ⌜ From 0 (now keys) ⌝ }
     requires { ⌜ Sound focus × Sound first × Sound second ⌝ }
-    requires { ⌜ Begun 2099200 (now keys) (now room) start count ⌝ }
+    requires { ⌜ Begun 2099200 (now keys) (now room) (begun .place) (begun .count) ⌝ }
     requires { ⌜ (length (now keys) ≤ length (now room)) × (length (now keys) ≤ length (now line)) × (length (now keys) ≤ length (now spare)) × (length (now keys) + length (now keys) ≤ length (now other)) ⌝ }
-    ensures { λ r. ⌜ Best (Between 2099200 focus (sectionIn first second) (now (keys .entry)) 0 (highAt (high 2099200) (now (keys .entry)) start) 0) best r ⌝ }
+    ensures { λ r. ⌜ Best (Between 2099200 focus (sectionIn first second) (now (keys .entry)) 0 (highAt (high 2099200) (now (keys .entry)) (begun .place)) 0) best r ⌝ }
 {
     let mut found = best;
-    let mut i = start;
-    let mut m = count;
+    let mut i = begun.place;
+    let mut m = begun.count;
     loop {
         let Step::Slab(place, rank) = behind(keys, focus, PLANE, 0, found, i) else {
             return found;
@@ -426,16 +400,13 @@ pub fn planes(
     ensures { λ r. ⌜ Best (Rank (mapIn focus first second) (now (keys .entry)) 0) best r ⌝ }
 {
     let begun = begin(keys, focus.wish, PLANE, below, above, other);
-    let place = begun.place;
-    let count = begun.count;
     let found = planes_down(
         keys,
         focus,
         first,
         second,
         best,
-        place,
-        count,
+        begun,
         below,
         line,
         spare,
@@ -447,8 +418,7 @@ pub fn planes(
         first,
         second,
         found,
-        place,
-        count,
+        begun,
         above,
         line,
         spare,

@@ -5,12 +5,12 @@
 use mathlib.Core.Path.{_≡_, refl}
 use mathlib.Core.List.{List, [], _∷_, _++_, map}
 use Prim.Native.Nat.{ℕ}
-use lib.IntN.{ℤ, pos, negsuc}
+use lib.IntN.{pos, negsuc}
 use Rattle.meaning.specs.Lists.{mostVertices}
 use Rattle.meaning.specs.Verdicts.{verdict}
 use Rattle.text.specs.Frames.{fourAt, lineAt, twoDigits, fourDigits, lineEnd}
 use Rattle.text.specs.Reading.{mapText, wishText, mostWishes}
-use Rattle.text.specs.Program.{mostBytes, Outcome, refusal, answers, outcome}
+use Rattle.text.specs.Program.{mostBytes, refusal, answers, outcome}
 
 digits : List ℕ → List ℕ
 digits [] = lineEnd ∷ []

@@ -3,6 +3,7 @@ pub mod FrameLaws
 pub mod Runs
 pub mod Totals
 pub mod Order
+pub mod ByEnds
 pub mod Lines
 pub mod Filling
 pub mod Settled

@@ -3,39 +3,28 @@ use native.Mathlib.Omega.{arith}
 use borrow.Author.Needs.{needs}
 use Rattle.nearest.proofs.rank_of_few.Statement.{statement}
 use Rattle.nearest.proofs.rank_of_few.Tie as tie
-use Rattle.nearest.proofs.rank_of_few.Reads as reads
-use Rattle.nearest.proofs.rank_of_few.Lts as lts
-use Rattle.nearest.proofs.rank_with_room.Reads as rank-with-room-reads
 
--- src/lib.rt:98:9
 slice-aggregate-rank-with-room : tie.Need-slice-aggregate-rank-with-room
 slice-aggregate-rank-with-room c = search needs
 
--- src/lib.rt:98:20
 slice-aggregate-rank-with-room-2 : tie.Need-slice-aggregate-rank-with-room-2
 slice-aggregate-rank-with-room-2 c = search needs
 
--- src/lib.rt:98:32
 slice-aggregate-rank-with-room-3 : tie.Need-slice-aggregate-rank-with-room-3
 slice-aggregate-rank-with-room-3 c = search needs
 
--- src/lib.rt:98:44
 slice-aggregate-rank-with-room-4 : tie.Need-slice-aggregate-rank-with-room-4
 slice-aggregate-rank-with-room-4 c = search needs
 
--- src/lib.rt:98:55
 slice-aggregate-rank-with-room-5 : tie.Need-slice-aggregate-rank-with-room-5
 slice-aggregate-rank-with-room-5 c = search needs
 
--- src/lib.rt:98:67
 slice-aggregate-rank-with-room-6 : tie.Need-slice-aggregate-rank-with-room-6
 slice-aggregate-rank-with-room-6 c = search needs
 
--- src/lib.rt:93:5
 rank-with-room-requires : tie.Need-rank-with-room-requires
 rank-with-room-requires c κs = let s = c .before .before .before .before .before .before in (s .pre .0, (s .pre .1 .0, (s .pre .1 .1, s .pre .1 .1, s .pre .1 .1, s .pre .1 .1, s .pre .1 .1, omega (arith, s .pre .1 .1))))
 
--- src/lib.rt:81:1
 returns : tie.Need-returns
 returns c = search needs
 

@@ -6,43 +6,32 @@ use Rattle.meaning.specs.Lists.{vertices, mostVertices}
 use borrow.Author.Needs.{needs}
 use Rattle.nearest.proofs.rank_of_many.Statement.{statement}
 use Rattle.nearest.proofs.rank_of_many.Tie as tie
-use Rattle.nearest.proofs.rank_of_many.Reads as reads
-use Rattle.nearest.proofs.rank_of_many.Lts as lts
-use Rattle.nearest.proofs.rank_with_room.Reads as rank-with-room-reads
 
 few : (s : tie.Start) → length (vertices (s .args .list .now)) ≤ 1024
 unfolding mostVertices
 few s = s .pre .0 .0 .few
 
--- src/lib.rt:118:9
 slice-aggregate-rank-with-room : tie.Need-slice-aggregate-rank-with-room
 slice-aggregate-rank-with-room c = search needs
 
--- src/lib.rt:118:20
 slice-aggregate-rank-with-room-2 : tie.Need-slice-aggregate-rank-with-room-2
 slice-aggregate-rank-with-room-2 c = search needs
 
--- src/lib.rt:118:32
 slice-aggregate-rank-with-room-3 : tie.Need-slice-aggregate-rank-with-room-3
 slice-aggregate-rank-with-room-3 c = search needs
 
--- src/lib.rt:118:44
 slice-aggregate-rank-with-room-4 : tie.Need-slice-aggregate-rank-with-room-4
 slice-aggregate-rank-with-room-4 c = search needs
 
--- src/lib.rt:118:55
 slice-aggregate-rank-with-room-5 : tie.Need-slice-aggregate-rank-with-room-5
 slice-aggregate-rank-with-room-5 c = search needs
 
--- src/lib.rt:118:67
 slice-aggregate-rank-with-room-6 : tie.Need-slice-aggregate-rank-with-room-6
 slice-aggregate-rank-with-room-6 c = search needs
 
--- src/lib.rt:113:5
 rank-with-room-requires : tie.Need-rank-with-room-requires
 rank-with-room-requires c κs = let s = c .before .before .before .before .before .before in (s .pre .0, (s .pre .1, (few s, few s, few s, few s, few s, omega (arith, few s))))
 
--- src/lib.rt:102:1
 returns : tie.Need-returns
 returns c = search needs
 

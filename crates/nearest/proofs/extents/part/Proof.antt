@@ -1,21 +1,15 @@
--- `extents::part` meets its contract.
+-- `extents::part` meets its contract, axis by axis.
 use mathlib.Core.Path.{refl}
 use Rattle.nearest.proofs.Reach.{part-is, part-last}
-use borrow.Author.Needs.{needs}
 use Rattle.nearest.proofs.extents.part.Statement.{statement}
 use Rattle.nearest.proofs.extents.part.Tie as tie
-use Rattle.nearest.proofs.extents.part.Reads as reads
-use Rattle.nearest.proofs.extents.part.Lts as lts
 
--- src/extents.rt:40:9
 returns : tie.Need-returns
 returns c = part-is (c .before .args .axis) 0 (c .before .args .key) _ (c .if1 .taken) refl
 
--- src/extents.rt:43:9
 returns-2 : tie.Need-returns-2
 returns-2 c = part-is (c .before .before .args .axis) 1 (c .before .before .args .key) _ (c .if2 .taken) refl
 
--- src/extents.rt:36:1
 returns-3 : tie.Need-returns-3
 returns-3 c = part-last (c .before .before .args .axis) (c .before .before .args .key) (c .before .if1 .left) (c .if2 .left)
 

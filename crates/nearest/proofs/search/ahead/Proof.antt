@@ -1,70 +1,52 @@
 -- `search::ahead` meets its contract: nothing from a place on, nothing better, or the slab up to the next cut.
-use mathlib.Core.Path.{_≡_, refl, sym, _∙_, ap, subst}
-use mathlib.Core.Logic.{_⊎_, inl, inr}
-use Prim.Native.Nat.{ℕ, _+_, _<_, _≤_}
+use mathlib.Core.Path.{subst}
+use mathlib.Core.Logic.{inl, inr}
+use Prim.Native.Nat.{ℕ}
 use native.Mathlib.Omega.{arith}
-use lib.ListN.{length, getD}
-use Rattle.nearest.specs.Search.{Least, value, high, highAt}
+use lib.ListN.{getD}
+use Rattle.nearest.specs.Search.{Least, value, high}
 use Rattle.nearest.proofs.Runs.{high-in, high-out, high-end}
 use Rattle.nearest.proofs.Sweeping.{high-here, between-high, slice-of}
 use borrow.Author.Needs.{needs}
 use Rattle.nearest.proofs.search.ahead.Statement.{statement}
 use Rattle.nearest.proofs.search.ahead.Tie as tie
-use Rattle.nearest.proofs.search.ahead.Reads as reads
-use Rattle.nearest.proofs.search.ahead.Lts as lts
-use Rattle.nearest.proofs.search.high_at.Reads as high-at-reads
-use Rattle.nearest.proofs.search.run_end.Reads as run-end-reads
-use Rattle.nearest.proofs.values.least.Reads as least-reads
 
--- src/search.rt:111:9
 returns : tie.Need-returns
 returns c = let s = c .before .before in inl (omega (arith, high-out (high (s .args .unit)) (s .args .list .now) (s .args .i) (c .if1 .taken)))
 
--- src/search.rt:113:15
 mul-low : tie.Need-mul-low
 mul-low c = search needs
 
--- src/search.rt:113:15
 shared-slice-read-low : tie.Need-shared-slice-read-low
 shared-slice-read-low c = search needs
 
--- src/search.rt:113:15
 div-low : tie.Need-div-low
 div-low c = search needs
 
--- src/search.rt:115:9
 returns-2 : tie.Need-returns-2
 returns-2 c = let s = c .before .before .before .before in inl (omega (arith, high-in (high (s .args .unit)) (s .args .list .now) (s .args .i) (c .before .before .if1 .left), c .if2 .taken))
 
--- src/search.rt:117:24
 least-requires : tie.Need-least-requires
 least-requires c κs = search needs
 
--- src/search.rt:117:17
 add-if3 : tie.Need-add-if3
 add-if3 c = search needs
 
--- src/search.rt:118:9
 returns-3 : tie.Need-returns-3
 returns-3 c = let s = c .before .before .before .before .before .before in inr (c .before .least .result, subst (λ (n : ℕ). Least (value (s .args .scale)) n 1024 (c .before .least .result)) (high-here (s .args .unit) (s .pre .0) (s .args .scale) (s .args .list .now) (s .pre .1 .0) (s .args .base) (s .args .i) (c .before .before .before .before .if1 .left) (c .before .before .if2 .left)) (c .before .least .ensures), c .if3 .taken)
 
--- src/search.rt:120:9
 run-end-requires : tie.Need-run-end-requires
 run-end-requires c κs = search needs
 
--- src/search.rt:121:48
 high-at-requires : tie.Need-high-at-requires
 high-at-requires c κs = search needs
 
--- src/search.rt:121:30
 least-requires-2 : tie.Need-least-requires-2
 least-requires-2 c κs = let s = c .before .before .before .before .before .before .before .before in (s .pre .1 .1 .0, (omega (arith, c .high-at .ensures, between-high (s .args .unit) (s .pre .0) (s .args .scale) (s .args .list .now) (s .pre .1 .0) (s .args .base) (s .args .i) (c .before .run-end .result) (c .before .run-end .ensures .0) (s .pre .1 .1 .1 .1) (c .before .run-end .ensures .1) (c .before .before .before .before .if2 .left)), omega (arith, c .high-at .ensures, high-end (high (s .args .unit)) (s .args .list .now) (c .before .run-end .result))))
 
--- src/search.rt:121:23
 add-t14 : tie.Need-add-t14
 add-t14 c = search needs
 
--- src/search.rt:102:1
 returns-4 : tie.Need-returns-4
 returns-4 c = let s = c .before .before .before .before .before .before .before .before .before in let r = c .before .before in slice-of (s .args .unit) (s .pre .0) (s .args .scale) (s .args .list .now) (s .pre .1 .0) (s .args .base) (s .args .i) (r .run-end .result) (c .least2 .result) (r .run-end .ensures .0) (s .pre .1 .1 .1 .1) (r .run-end .ensures .1) (c .before .before .before .before .before .if2 .left) (subst (λ (n : ℕ). Least (value (s .args .scale)) (high (s .args .unit) (getD (s .args .list .now) (s .args .i) 0)) n (c .least2 .result)) (c .before .high-at .ensures) (c .least2 .ensures))
 

@@ -1,5 +1,5 @@
 -- `search::begin` meets its contract: the numbers up to the wish's code, their section, and a copy of it.
-use mathlib.Core.Path.{_≡_, refl, sym, subst}
+use mathlib.Core.Path.{_≡_, sym, subst}
 use mathlib.Core.List.{List}
 use Prim.Native.Nat.{ℕ, _≤_}
 use native.Mathlib.Omega.{arith}
@@ -10,11 +10,6 @@ use Rattle.nearest.proofs.Runs.{from-take, part-fits, copied}
 use borrow.Author.Needs.{needs}
 use Rattle.nearest.proofs.search.begin.Statement.{statement}
 use Rattle.nearest.proofs.search.begin.Tie as tie
-use Rattle.nearest.proofs.search.begin.Reads as reads
-use Rattle.nearest.proofs.search.begin.Lts as lts
-use Rattle.nearest.proofs.search.gather.Reads as gather-reads
-use Rattle.nearest.proofs.search.upto.Reads as upto-reads
-use Rattle.rising.proofs.put.Reads as put-reads
 
 within : (c : tie.After-upto) → c .upto .result ≤ length (c .before .before .before .before .before .args .list .now)
 within c = c .upto .ensures .0 .within
@@ -31,43 +26,33 @@ short g = omega (arith, g .gather .ensures .1, part (g .before .before .before .
 fits : (g : tie.After-gather) → g .gather .result ≤ length (g .gather .last .1 .1 .0)
 fits g = omega (arith, short g, g .gather .kept .1 .1 .0, start g .pre .1 .1 .0)
 
--- src/search.rt:151:9
 upto-requires : tie.Need-upto-requires
 upto-requires c κs = search needs
 
--- src/search.rt:152:24
 slice-aggregate-gather : tie.Need-slice-aggregate-gather
 slice-aggregate-gather c = sym (part (c .before))
 
--- src/search.rt:152:9
 gather-requires : tie.Need-gather-requires
 gather-requires c κs = let s = c .before .before .before .before .before .before .before .before in (s .pre .0 .0, (from-take 0 (c .before .before .before .upto .result) (s .args .list .now) (s .pre .1 .0), (omega (arith, part (c .before .before .before), within (c .before .before .before), s .pre .1 .1 .0), omega (arith, part (c .before .before .before), within (c .before .before .before), s .pre .1 .1 .2))))
 
--- src/search.rt:153:17
 slice-reshare-prefix-put : tie.Need-slice-reshare-prefix-put
 slice-reshare-prefix-put c = fits (c .before .before .before .before)
 
--- src/search.rt:153:17
 slice-aggregate-put : tie.Need-slice-aggregate-put
 slice-aggregate-put c = sym (length-take-le _ (c .before .before .before .before .before .gather .last .1 .1 .0) (fits (c .before .before .before .before .before)))
 
--- src/search.rt:153:5
 put-requires : tie.Need-put-requires
 put-requires c κs = let g = c .before .before .before .before .before .before in (omega (arith, length-take-le _ (g .gather .last .1 .1 .0) (fits g), short g, start g .pre .1 .1 .1), part-fits (g .gather .last .1 .1 .0) (c .before .before .before .before .slice-known4 .given) (g .gather .result))
 
--- src/search.rt:145:1
 same-length : tie.Need-same-length
 same-length c = search needs
 
--- src/search.rt:145:1
 same-length-2 : tie.Need-same-length-2
 same-length-2 c = search needs
 
--- src/search.rt:145:1
 same-length-3 : tie.Need-same-length-3
 same-length-3 c = search needs
 
--- src/search.rt:145:1
 returns : tie.Need-returns
 returns c =
     let g = c .before .before .before .before .before .before .before .before .before in

@@ -1,20 +1,15 @@
 -- `search::behind` meets its contract: nothing below a place, nothing better, or the slab down to the cut before it.
-use mathlib.Core.Path.{_≡_, sym, subst}
-use mathlib.Core.Logic.{_⊎_, inl, inr}
+use mathlib.Core.Path.{_≡_, subst}
+use mathlib.Core.Logic.{inl, inr}
 use Prim.Native.Nat.{ℕ, _-_, _<_, _≤_}
 use native.Mathlib.Omega.{arith}
-use lib.ListN.{length, getD}
+use lib.ListN.{getD}
 use Rattle.nearest.specs.Search.{Least, value, high, highAt}
 use Rattle.nearest.proofs.Runs.{high-end}
 use Rattle.nearest.proofs.Sweeping.{below-high, slice-of}
 use borrow.Author.Needs.{needs}
 use Rattle.nearest.proofs.search.behind.Statement.{statement}
 use Rattle.nearest.proofs.search.behind.Tie as tie
-use Rattle.nearest.proofs.search.behind.Reads as reads
-use Rattle.nearest.proofs.search.behind.Lts as lts
-use Rattle.nearest.proofs.search.high_at.Reads as high-at-reads
-use Rattle.nearest.proofs.search.run_start.Reads as run-start-reads
-use Rattle.nearest.proofs.values.least.Reads as least-reads
 
 pos : (c : tie.Else1) → 0 < c .before .before .args .i
 pos c = some (c .before .before .args .i) (c .if1 .left)
@@ -32,55 +27,42 @@ over c =
 top : (c : tie.After-high-at) → c .high-at .result ≤ 1024
 top c = let s = c .before .before .before .before in omega (arith, c .high-at .ensures, high-end (high (s .args .unit)) (s .args .list .now) (s .args .i))
 
--- src/search.rt:216:9
 returns : tie.Need-returns
 returns c = inl (c .if1 .taken)
 
--- src/search.rt:218:20
 sub-low : tie.Need-sub-low
 sub-low c = pos c
 
--- src/search.rt:218:15
 mul-low : tie.Need-mul-low
 mul-low c = search needs
 
--- src/search.rt:218:15
 shared-slice-read-low : tie.Need-shared-slice-read-low
 shared-slice-read-low c = omega (arith, c .before .before .before .pre .1 .1 .1 .1 .0 .within, pos (c .before))
 
--- src/search.rt:218:15
 div-low : tie.Need-div-low
 div-low c = search needs
 
--- src/search.rt:219:9
 high-at-requires : tie.Need-high-at-requires
 high-at-requires c κs = search needs
 
--- src/search.rt:220:24
 least-requires : tie.Need-least-requires
 least-requires c κs = let s = c .before .before .before .before in (s .pre .1 .1 .0, (omega (arith, over c), top c))
 
--- src/search.rt:220:17
 add-if2 : tie.Need-add-if2
 add-if2 c = search needs
 
--- src/search.rt:221:9
 returns-2 : tie.Need-returns-2
 returns-2 c = let s = c .before .before .before .before .before .before in inr (inr (c .before .least .result, subst (λ (n : ℕ). Least (value (s .args .scale)) 0 n (c .before .least .result)) (c .before .before .high-at .ensures) (c .before .least .ensures), c .if2 .taken))
 
--- src/search.rt:223:16
 run-start-requires : tie.Need-run-start-requires
 run-start-requires c κs = let s = c .before .before .before .before .before .before in (s .pre .0, (s .pre .1 .0, (pos (c .before .before .before .before), s .pre .1 .1 .1 .1 .0 .within)))
 
--- src/search.rt:223:49
 least-requires-2 : tie.Need-least-requires-2
 least-requires-2 c κs = let s = c .before .before .before .before .before .before .before in (s .pre .1 .1 .0, (over (c .before .before .before), top (c .before .before .before)))
 
--- src/search.rt:223:42
 add-t15 : tie.Need-add-t15
 add-t15 c = search needs
 
--- src/search.rt:207:1
 returns-3 : tie.Need-returns-3
 returns-3 c =
     let s = c .before .before .before .before .before .before .before .before in

@@ -1,22 +1,17 @@
 -- `search::cross` meets its contract: the merge drops what stands in both, and the copy brings it home.
-use mathlib.Core.Path.{_≡_, sym, _∙_, ap}
+use mathlib.Core.Path.{_≡_, sym}
 use mathlib.Core.List.{List}
-use Prim.Native.Nat.{ℕ, _*_, _-_, _+_, _≤_}
+use Prim.Native.Nat.{ℕ, _*_, _-_, _≤_}
 use native.Mathlib.Omega.{arith}
 use native.Mathlib.Nat.{div-mul-le-self}
-use lib.ListN.{length, getD, take, drop}
+use lib.ListN.{length, getD, take}
 use lib.Seq.{length-take-le}
-use Rattle.lists.proofs.Vertices.{all-by}
 use Rattle.rising.specs.Merged.{merged, lessBase}
 use Rattle.nearest.specs.Search.{high}
 use Rattle.nearest.proofs.Runs.{runOf, cross-fits, cross-based, length-run, part-fits, copied}
 use borrow.Author.Needs.{needs}
 use Rattle.nearest.proofs.search.cross.Statement.{statement}
 use Rattle.nearest.proofs.search.cross.Tie as tie
-use Rattle.nearest.proofs.search.cross.Reads as reads
-use Rattle.nearest.proofs.search.cross.Lts as lts
-use Rattle.rising.proofs.merge.Reads as merge-reads
-use Rattle.rising.proofs.put.Reads as put-reads
 
 abbrev keys : tie.Start → List ℕ
 keys s = s .args .list .now
@@ -39,71 +34,54 @@ count c = c .merge .ensures .0
 room-for : (c : tie.After-merge) → c .merge .result ≤ length (c .merge .last .1 .1 .1 .0)
 room-for c = omega (arith, count c, fits (start c) .1, c .merge .kept .1 .1 .1 .0, start c .pre .1 .1 .1 .1 .2)
 
--- src/search.rt:59:16
 mul-base : tie.Need-mul-base
 mul-base c = search needs
 
--- src/search.rt:59:16
 shared-slice-read-base : tie.Need-shared-slice-read-base
 shared-slice-read-base c = search needs
 
--- src/search.rt:59:16
 div-base : tie.Need-div-base
 div-base c = search needs
 
--- src/search.rt:59:16
 mul-base-2 : tie.Need-mul-base-2
 mul-base-2 c = let s = c .before .before .before .before in omega (arith, div-mul-le-self (getD (s .args .list .now) (s .args .i) 0) (s .args .unit), c .shared-slice-known2 .given (s .args .i))
 
--- src/search.rt:60:27
 slice-reshare-prefix-merge : tie.Need-slice-reshare-prefix-merge
 slice-reshare-prefix-merge c = search needs
 
--- src/search.rt:60:27
 slice-aggregate-merge : tie.Need-slice-aggregate-merge
 slice-aggregate-merge c = sym (part (c .before .before .before .before .before))
 
--- src/search.rt:60:39
 mul-merge : tie.Need-mul-merge
 mul-merge c = search needs
 
--- src/search.rt:60:39
 sub-merge : tie.Need-sub-merge
 sub-merge c = search needs
 
--- src/search.rt:60:39
 part-merge-start : tie.Need-part-merge-start
 part-merge-start c = search needs
 
--- src/search.rt:60:39
 part-merge-end : tie.Need-part-merge-end
 part-merge-end c = search needs
 
--- src/search.rt:60:9
 merge-requires : tie.Need-merge-requires
 merge-requires c κs = let s = c .before .before .before .before .before .before .before in (omega (arith, fits s .0, length-run (keys s) (s .args .i) (s .args .e) (s .pre .1 .1 .0 .within), s .pre .1 .1 .0 .within, s .pre .1 .1 .1 .1 .2), cross-based (s .args .unit) (keys s) (s .pre .1 .0) (s .args .i) (s .args .e) (s .pre .1 .1 .0))
 
--- src/search.rt:61:17
 slice-reshare-prefix-put : tie.Need-slice-reshare-prefix-put
 slice-reshare-prefix-put c = room-for (c .before .before)
 
--- src/search.rt:61:17
 slice-aggregate-put : tie.Need-slice-aggregate-put
 slice-aggregate-put c = sym (length-take-le _ (c .before .before .before .merge .last .1 .1 .1 .0) (room-for (c .before .before .before)))
 
--- src/search.rt:61:5
 put-requires : tie.Need-put-requires
 put-requires c κs = let m = c .before .before .before .before in (omega (arith, length-take-le _ (m .merge .last .1 .1 .1 .0) (room-for m), count m, fits (start m) .1, start m .pre .1 .1 .1 .1 .1), part-fits (m .merge .last .1 .1 .1 .0) (c .before .before .slice-known3 .given) (m .merge .result))
 
--- src/search.rt:51:1
 same-length : tie.Need-same-length
 same-length c = search needs
 
--- src/search.rt:51:1
 same-length-2 : tie.Need-same-length-2
 same-length-2 c = search needs
 
--- src/search.rt:51:1
 returns : tie.Need-returns
 returns c = let m = c .before .before .before .before .before .before .before in (omega (arith, count m, fits (start m) .1), copied (whole (start m)) _ (m .merge .last .1 .1 .1 .0) _ (c .before .before .put .last .1 .1 .0) (m .merge .result) (count m) (m .merge .ensures .1) (c .before .before .put .ensures))
 

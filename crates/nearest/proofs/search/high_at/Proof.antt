@@ -1,4 +1,4 @@
--- `search::high_at` meets its contract.
+-- `search::high_at` meets its contract: past the list and past the codes the end, else the high part.
 use mathlib.Core.Path.{sym, _∙_}
 use native.Mathlib.Omega.{arith}
 use Rattle.nearest.specs.Search.{high}
@@ -6,30 +6,22 @@ use Rattle.nearest.proofs.Runs.{high-in, high-out}
 use borrow.Author.Needs.{needs}
 use Rattle.nearest.proofs.search.high_at.Statement.{statement}
 use Rattle.nearest.proofs.search.high_at.Tie as tie
-use Rattle.nearest.proofs.search.high_at.Reads as reads
-use Rattle.nearest.proofs.search.high_at.Lts as lts
 
--- src/search.rt:25:9
 returns : tie.Need-returns
 returns c = sym (high-out (high (c .before .args .unit)) (c .before .args .list .now) _ (c .if1 .taken))
 
--- src/search.rt:27:16
 mul-high : tie.Need-mul-high
 mul-high c = search needs
 
--- src/search.rt:27:16
 shared-slice-read-high : tie.Need-shared-slice-read-high
 shared-slice-read-high c = search needs
 
--- src/search.rt:27:16
 div-high : tie.Need-div-high
 div-high c = search needs
 
--- src/search.rt:20:1
 returns-2 : tie.Need-returns-2
 returns-2 c = let s = c .before .before in sym (high-in (high (s .before .args .unit)) (s .before .args .list .now) _ (s .if1 .left) ∙ omega arith)
 
--- src/search.rt:20:1
 returns-3 : tie.Need-returns-3
 returns-3 c = let s = c .before .before in sym (high-in (high (s .before .args .unit)) (s .before .args .list .now) _ (s .if1 .left) ∙ omega arith)
 

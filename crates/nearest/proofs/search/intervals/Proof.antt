@@ -1,7 +1,6 @@
 -- `search::intervals` meets its contract: each turn one stretch of cells, its nearest code.
-use mathlib.Core.Path.{_≡_, sym, _∙_, subst}
+use mathlib.Core.Path.{sym, subst}
 use mathlib.Core.Logic.{⊎-elim}
-use mathlib.Core.List.{List}
 use Prim.Native.Nat.{ℕ, _-_, _+_, _<_, _≤_}
 use native.Mathlib.Omega.{arith}
 use lib.ListN.{length, getD}
@@ -12,10 +11,6 @@ use Rattle.nearest.proofs.Intervals.{Walking, walk-begins, walk-out, wa
 use borrow.Author.Needs.{needs}
 use Rattle.nearest.proofs.search.intervals.Statement.{statement}
 use Rattle.nearest.proofs.search.intervals.Tie as tie
-use Rattle.nearest.proofs.search.intervals.Reads as reads
-use Rattle.nearest.proofs.search.intervals.Lts as lts
-use Rattle.nearest.proofs.search.high_at.Reads as high-at-reads
-use Rattle.nearest.proofs.values.least.Reads as least-reads
 
 abbrev Inv-loop : tie.InvT-loop
 Inv-loop line second base best found₀ i₀ found i = Walking line second base best i found
@@ -41,51 +36,39 @@ far c =
     let s = l .before .before .before in
     subst (λ (n : ℕ). Least (value (s .args .second)) (getD (s .args .line .now) (l .loop .i) 0) n (c .least .result)) (c .before .high-at .ensures) (c .least .ensures)
 
--- src/search.rt:74:9
 returns : tie.Need-returns Inv-loop μ-loop
 returns c = rank-stop (lineIn (c .before .before .args .second)) (c .before .before .args .line .now) (c .before .before .args .base) (c .before .before .args .best) (c .if1 .taken)
 
--- src/search.rt:78:5
 loop-holds : tie.Need-loop-holds Inv-loop μ-loop
 loop-holds c = let s = c .before .before in walk-begins (s .args .line .now) (s .pre .0) (s .args .second) (s .args .base) (s .args .best)
 
--- src/search.rt:79:19
 mul-low : tie.Need-mul-low Inv-loop μ-loop
 mul-low c = search needs
 
--- src/search.rt:79:19
 shared-slice-read-low : tie.Need-shared-slice-read-low Inv-loop μ-loop
 shared-slice-read-low c = search needs
 
--- src/search.rt:81:13
 returns-2 : tie.Need-returns-2 Inv-loop μ-loop
 returns-2 c = let l = c .before .before .before in let s = l .before .before .before in walk-end (s .args .line .now) (s .pre .0) (s .args .second) (s .args .base) (s .args .best) (l .loop .i) (l .loop .found) (l .loop .inv) (c .before .before .loop-test .taken) (c .if2 .taken)
 
--- src/search.rt:83:60
 add-high-at : tie.Need-add-high-at Inv-loop μ-loop
 add-high-at c = search needs
 
--- src/search.rt:83:46
 high-at-requires : tie.Need-high-at-requires Inv-loop μ-loop
 high-at-requires c κs = search needs
 
--- src/search.rt:83:27
 least-requires : tie.Need-least-requires Inv-loop μ-loop
 least-requires c κs = let l = c .before .before .before .before in let s = l .before .before .before in (s .pre .1 .0, (above c, end c))
 
--- src/search.rt:83:20
 add-rank : tie.Need-add-rank Inv-loop μ-loop
 add-rank c = let s = c .before .before .before .before .before .before .before .before in omega (arith, c .least .ensures .small, s .pre .1 .1)
 
--- src/search.rt:87:9
 add-i : tie.Need-add-i Inv-loop μ-loop
 add-i c = search needs
 
--- src/search.rt:78:5
 loop-less : tie.Need-loop-less Inv-loop μ-loop
 loop-less c = search needs
 
--- src/search.rt:78:5
 loop-again : tie.Need-loop-again Inv-loop μ-loop
 loop-again c =
     let a = c .before in
@@ -98,7 +81,6 @@ loop-again c =
     (walk-on (s .args .line .now) (s .pre .0) (s .args .second) (s .args .base) (s .args .best) (l .loop .i) (l .loop .found) (l .loop .inv) (a .before .before .before .before .loop-test .taken) (a .before .before .if2 .left) (a .least .result) (far a) (w .0 .left)))
     (c .if3 .came)
 
--- src/search.rt:67:1
 returns-3 : tie.Need-returns-3 Inv-loop μ-loop
 returns-3 c = let l = c .before in let s = l .before .before .before in walk-out (s .args .line .now) (s .pre .0) (s .args .second) (s .args .base) (s .args .best) (l .loop .i) (l .loop .found) (l .loop .inv) (c .loop-test .left)
 

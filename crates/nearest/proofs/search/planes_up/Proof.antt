@@ -1,10 +1,9 @@
 -- `search::planes_up` meets its contract: each turn one slab, from a plane to the next.
-use mathlib.Core.Path.{_≡_, refl, sym, _∙_, ap, subst}
-use mathlib.Core.Logic.{_⊎_, inl, inr}
-use mathlib.Core.List.{List}
-use Prim.Native.Nat.{ℕ, _-_, _+_, _*_, _<_, _≤_}
+use mathlib.Core.Path.{_≡_, refl, sym, _∙_, subst}
+use mathlib.Core.Logic.{inl}
+use Prim.Native.Nat.{_-_, _+_, _≤_}
 use native.Mathlib.Omega.{arith}
-use lib.ListN.{length, getD, take}
+use lib.ListN.{length, take}
 use lib.Seq.{length-take-le}
 use Rattle.nearest.specs.Search.{high, highAt, Slice, Nothing, Ahead, sectionIn}
 use Rattle.nearest.specs.declared.search.Step.{Step}
@@ -12,41 +11,39 @@ use Rattle.nearest.proofs.Sweeping.{Sweeping, sweep-begins, sweep-over,
 use borrow.Author.Needs.{needs}
 use Rattle.nearest.proofs.search.planes_up.Statement.{statement}
 use Rattle.nearest.proofs.search.planes_up.Tie as tie
-use Rattle.nearest.proofs.search.planes_up.Reads as reads
-use Rattle.nearest.proofs.search.planes_up.Lts as lts
-use Rattle.nearest.proofs.search.ahead.Reads as ahead-reads
-use Rattle.nearest.proofs.search.cross.Reads as cross-reads
-use Rattle.nearest.proofs.search.strips.Reads as strips-reads
 
 abbrev Inv-loop : tie.InvT-loop
-Inv-loop keys focus first second best start count room₀ line₀ spare₀ other₀ found₀ i₀ m₀ room line spare other found i m = Sweeping 2099200 focus (sectionIn first second) keys start 0 best room i m found × ((length room ≡ length room₀) × (length line ≡ length line₀) × (length spare ≡ length spare₀) × (length other ≡ length other₀))
+Inv-loop keys focus first second best room₀ line₀ spare₀ other₀ found₀ i₀ m₀ room line spare other found i m = Sweeping 2099200 focus (sectionIn first second) keys i₀ 0 best room i m found × ((length room ≡ length room₀) × (length line ≡ length line₀) × (length spare ≡ length spare₀) × (length other ≡ length other₀))
 
 abbrev μ-loop : tie.MeasureT-loop
-μ-loop keys focus first second best start count room₀ line₀ spare₀ other₀ found₀ i₀ m₀ room line spare other found i m = length keys - i
+μ-loop keys focus first second best room₀ line₀ spare₀ other₀ found₀ i₀ m₀ room line spare other found i m = length keys - i
+
+abbrev start : tie.At-loop Inv-loop μ-loop → tie.Start Inv-loop μ-loop
+start l = l .before .before .before .before .before .before
 
 -- what the step says, where there is a slab and where there is none
-slab : (c : tie.After-place Inv-loop μ-loop) → Slice 2099200 (c .before .before .before .before .before .before .before .before .before .args .focus) (c .before .before .before .before .before .before .before .before .before .args .keys .now) 0 (c .before .before .before .loop .i) (c .place .given .0 .0) (c .place .given .0 .1 .0)
+slab : (c : tie.After-place Inv-loop μ-loop) → Slice 2099200 (start (c .before .before .before) .args .focus) (start (c .before .before .before) .args .keys .now) 0 (c .before .before .before .loop .i) (c .place .given .0 .0) (c .place .given .0 .1 .0)
 slab c =
     let l = c .before .before .before in
-    let s = l .before .before .before .before .before .before in
+    let s = start l in
     subst (λ (r : Step). Ahead 2099200 (s .args .focus) (s .args .keys .now) 0 (l .loop .found) (l .loop .i) r) (c .place .given .1) (c .before .before .ahead .ensures)
 
-over : (c : tie.After-enum-told Inv-loop μ-loop) → Nothing (c .before .before .before .before .before .before .before .before .before .args .focus) (highAt (high 2099200) (c .before .before .before .before .before .before .before .before .before .args .keys .now) (c .before .before .before .loop .i)) 1024 0 (c .before .before .before .loop .found)
+over : (c : tie.After-enum-told Inv-loop μ-loop) → Nothing (start (c .before .before .before) .args .focus) (highAt (high 2099200) (start (c .before .before .before) .args .keys .now) (c .before .before .before .loop .i)) 1024 0 (c .before .before .before .loop .found)
 over c =
     let l = c .before .before .before in
-    let s = l .before .before .before .before .before .before in
+    let s = start l in
     subst (λ (r : Step). Ahead 2099200 (s .args .focus) (s .args .keys .now) 0 (l .loop .found) (l .loop .i) r) (c .enum-told .given .1) (c .before .before .ahead .ensures)
 
 -- the rooms stay as long as they were
 record Rooms (l : tie.At-loop Inv-loop μ-loop) : Type 0 where
-  pub sections : length (l .before .before .before .before .before .before .args .keys .now) ≤ length (l .loop .room)
-  pub lines : length (l .before .before .before .before .before .before .args .keys .now) ≤ length (l .loop .line)
-  pub spares : length (l .before .before .before .before .before .before .args .keys .now) ≤ length (l .loop .spare)
-  pub others : length (l .before .before .before .before .before .before .args .keys .now) + length (l .before .before .before .before .before .before .args .keys .now) ≤ length (l .loop .other)
+  pub sections : length (start l .args .keys .now) ≤ length (l .loop .room)
+  pub lines : length (start l .args .keys .now) ≤ length (l .loop .line)
+  pub spares : length (start l .args .keys .now) ≤ length (l .loop .spare)
+  pub others : length (start l .args .keys .now) + length (start l .args .keys .now) ≤ length (l .loop .other)
 
 rooms : (l : tie.At-loop Inv-loop μ-loop) → Rooms l
 rooms l =
-    let s = l .before .before .before .before .before .before in
+    let s = start l in
     record {
       sections = omega (arith, l .loop .inv .1 .0, s .pre .1 .1 .1 .0);
       lines = omega (arith, l .loop .inv .1 .1, s .pre .1 .1 .1 .1);
@@ -60,61 +57,48 @@ fits x = omega (arith, x .cross .ensures .0, x .cross .kept .1 .1 .1 .1 .1 .0, r
 part : (x : tie.After-cross Inv-loop μ-loop) → length (take (x .cross .result) (x .cross .last .1 .1 .1 .1 .1 .0)) ≡ x .cross .result
 part x = length-take-le (x .cross .result) (x .cross .last .1 .1 .1 .1 .1 .0) (fits x)
 
--- src/search.rt:309:5
 loop-holds : tie.Need-loop-holds Inv-loop μ-loop
-loop-holds c = let s = c .before .before .before .before .before in let b = s .pre .1 .1 .0 in (sweep-begins 2099200 (omega arith) (s .args .focus) (sectionIn (s .args .first) (s .args .second)) (s .args .keys .now) (s .pre .0) (s .args .start) 0 (s .args .best) (s .args .room .now) (s .args .count) (b .fits) (b .cut) (b .section), (refl, refl, refl, refl))
+loop-holds c = let s = c .before .before .before .before .before in let b = s .pre .1 .1 .0 in (sweep-begins 2099200 (omega arith) (s .args .focus) (sectionIn (s .args .first) (s .args .second)) (s .args .keys .now) (s .pre .0) (s .args .begun .place) 0 (s .args .best) (s .args .room .now) (s .args .begun .count) (b .fits) (b .cut) (b .section), (refl, refl, refl, refl))
 
--- src/search.rt:310:39
 ahead-requires : tie.Need-ahead-requires Inv-loop μ-loop
-ahead-requires c κs = let l = c in let s = l .before .before .before .before .before .before in (omega arith, (s .pre .0, (s .pre .1 .0 .0, (omega arith, c .loop .inv .0 .cut))))
+ahead-requires c κs = let l = c in let s = start l in (omega arith, (s .pre .0, (s .pre .1 .0 .0, (omega arith, c .loop .inv .0 .cut))))
 
--- src/search.rt:310:24
 enum-known-place : tie.Need-enum-known-place Inv-loop μ-loop
 enum-known-place c = search needs
 
--- src/search.rt:311:13
 enum-told : tie.Need-enum-told Inv-loop μ-loop
 enum-told c = search needs
 
--- src/search.rt:311:13
 same-length : tie.Need-same-length Inv-loop μ-loop
 same-length c = search needs
 
--- src/search.rt:311:13
 same-length-2 : tie.Need-same-length-2 Inv-loop μ-loop
 same-length-2 c = search needs
 
--- src/search.rt:311:13
 same-length-3 : tie.Need-same-length-3 Inv-loop μ-loop
 same-length-3 c = search needs
 
--- src/search.rt:311:13
 same-length-4 : tie.Need-same-length-4 Inv-loop μ-loop
 same-length-4 c = search needs
 
--- src/search.rt:311:13
 returns : tie.Need-returns Inv-loop μ-loop
-returns c = let l = c .before .before .before in let s = l .before .before .before .before .before .before in sweep-over 2099200 (omega arith) (s .args .focus) (sectionIn (s .args .first) (s .args .second)) (s .args .keys .now) (s .pre .0) (s .args .start) 0 (s .args .best) (l .loop .room) (l .loop .i) (l .loop .m) (l .loop .found) (l .loop .inv .0) (over c)
+returns c = let l = c .before .before .before in let s = start l in sweep-over 2099200 (omega arith) (s .args .focus) (sectionIn (s .args .first) (s .args .second)) (s .args .keys .now) (s .pre .0) (s .args .begun .place) 0 (s .args .best) (l .loop .room) (l .loop .i) (l .loop .m) (l .loop .found) (l .loop .inv .0) (over c)
 
--- src/search.rt:313:9
 cross-requires : tie.Need-cross-requires Inv-loop μ-loop
-cross-requires c κs = let l = c .before .before .before .before .before .before in let s = l .before .before .before .before .before .before in (omega arith, (s .pre .0, (slab (c .before .before .before) .run, (inl (l .loop .inv .0 .section), (l .loop .inv .0 .fits, rooms l .sections, rooms l .others)))))
+cross-requires c κs = let l = c .before .before .before .before .before .before in let s = start l in (omega arith, (s .pre .0, (slab (c .before .before .before) .run, (inl (l .loop .inv .0 .section), (l .loop .inv .0 .fits, rooms l .sections, rooms l .others)))))
 
--- src/search.rt:314:24
 slice-reshare-prefix-strips : tie.Need-slice-reshare-prefix-strips Inv-loop μ-loop
 slice-reshare-prefix-strips c = fits (c .before .before .before .before)
 
--- src/search.rt:314:24
 slice-aggregate-strips : tie.Need-slice-aggregate-strips Inv-loop μ-loop
 slice-aggregate-strips c = sym (part (c .before .before .before .before .before))
 
--- src/search.rt:314:9
 strips-requires : tie.Need-strips-requires Inv-loop μ-loop
 strips-requires c κs =
     let x = c .before .before .before .before .before .before .before .before in
     let l = x .before .before .before .before .before .before .before in
-    let s = l .before .before .before .before .before .before in (
-      section-ahead 2099200 (omega arith) (s .args .focus) (sectionIn (s .args .first) (s .args .second)) (s .args .keys .now) (s .pre .0) (s .args .start) 0 (s .args .best) (l .loop .room) (l .loop .i) (l .loop .m) (l .loop .found) (l .loop .inv .0) _ _ (slab (x .before .before .before .before)) (x .cross .last .1 .1 .1 .1 .1 .0) (x .cross .result) (x .cross .ensures .1) .rising,
+    let s = start l in (
+      section-ahead 2099200 (omega arith) (s .args .focus) (sectionIn (s .args .first) (s .args .second)) (s .args .keys .now) (s .pre .0) (s .args .begun .place) 0 (s .args .best) (l .loop .room) (l .loop .i) (l .loop .m) (l .loop .found) (l .loop .inv .0) _ _ (slab (x .before .before .before .before)) (x .cross .last .1 .1 .1 .1 .1 .0) (x .cross .result) (x .cross .ensures .1) .rising,
       (
         (s .pre .1 .0 .1, s .pre .1 .0 .2),
         (
@@ -124,18 +108,16 @@ strips-requires c κs =
       ),
     )
 
--- src/search.rt:309:5
 loop-less : tie.Need-loop-less Inv-loop μ-loop
 loop-less c = let x = c .before .before .before .before .before .before .before .before .before .before .before .before .before .before .before in let t = slab (x .before .before .before .before) in omega (arith, t .run .some, t .run .within)
 
--- src/search.rt:309:5
 loop-again : tie.Need-loop-again Inv-loop μ-loop
 loop-again c =
     let t = c .before .before .before .before .before .before in
     let x = c .before .before .before .before .before .before .before .before .before .before .before .before .before .before .before in
     let l = x .before .before .before .before .before .before .before in
-    let s = l .before .before .before .before .before .before in (
-      sweep-on 2099200 (omega arith) (s .args .focus) (sectionIn (s .args .first) (s .args .second)) (s .args .keys .now) (s .pre .0) (s .args .start) 0 (s .args .best) (l .loop .room) (l .loop .i) (l .loop .m) (l .loop .found) (l .loop .inv .0) _ _ (slab (x .before .before .before .before)) (x .cross .last .1 .1 .1 .1 .1 .0) (x .cross .result) (x .cross .ensures .1) (fits x) (t .strips .result) (t .strips .ensures),
+    let s = start l in (
+      sweep-on 2099200 (omega arith) (s .args .focus) (sectionIn (s .args .first) (s .args .second)) (s .args .keys .now) (s .pre .0) (s .args .begun .place) 0 (s .args .best) (l .loop .room) (l .loop .i) (l .loop .m) (l .loop .found) (l .loop .inv .0) _ _ (slab (x .before .before .before .before)) (x .cross .last .1 .1 .1 .1 .1 .0) (x .cross .result) (x .cross .ensures .1) (fits x) (t .strips .result) (t .strips .ensures),
       (x .cross .kept .1 .1 .1 .1 .1 .0 ∙ l .loop .inv .1 .0, t .strips .kept .1 .1 .1 .1 .1 .0 ∙ l .loop .inv .1 .1, t .strips .kept .1 .1 .1 .1 .1 .1 .0 ∙ l .loop .inv .1 .2, t .strips .kept .1 .1 .1 .1 .1 .1 .1 .0 ∙ (x .cross .kept .1 .1 .1 .1 .1 .1 .0 ∙ l .loop .inv .1 .3)),
     )
 

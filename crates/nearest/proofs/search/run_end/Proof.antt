@@ -8,8 +8,6 @@ use Rattle.nearest.proofs.Runs.{run-begins, run-over, run-goes-on, run-
 use borrow.Author.Needs.{needs}
 use Rattle.nearest.proofs.search.run_end.Statement.{statement}
 use Rattle.nearest.proofs.search.run_end.Tie as tie
-use Rattle.nearest.proofs.search.run_end.Reads as reads
-use Rattle.nearest.proofs.search.run_end.Lts as lts
 
 abbrev Inv-loop : tie.InvT-loop
 Inv-loop list i unit base e₀ e = Run (high unit) list i e
@@ -17,59 +15,45 @@ Inv-loop list i unit base e₀ e = Run (high unit) list i e
 abbrev μ-loop : tie.MeasureT-loop
 μ-loop list i unit base e₀ e = length list - e
 
--- src/search.rt:38:16
 mul-base : tie.Need-mul-base Inv-loop μ-loop
 mul-base c = search needs
 
--- src/search.rt:38:16
 shared-slice-read-base : tie.Need-shared-slice-read-base Inv-loop μ-loop
 shared-slice-read-base c = search needs
 
--- src/search.rt:38:16
 div-base : tie.Need-div-base Inv-loop μ-loop
 div-base c = search needs
 
--- src/search.rt:38:16
 mul-base-2 : tie.Need-mul-base-2 Inv-loop μ-loop
 mul-base-2 c = omega (arith, div-mul-le-self (getD (c .before .args .list .now) (c .before .args .i) 0) (c .before .args .unit), c .shared-slice-known .given (c .before .args .i))
 
--- src/search.rt:39:17
 add-e : tie.Need-add-e Inv-loop μ-loop
 add-e c = search needs
 
--- src/search.rt:40:5
 loop-holds : tie.Need-loop-holds Inv-loop μ-loop
 loop-holds c = let s = c .before in run-begins (s .args .unit) (s .pre .0) (s .args .list .now) (s .pre .1 .0) _ (s .pre .1 .1)
 
--- src/search.rt:41:20
 mul-if1 : tie.Need-mul-if1 Inv-loop μ-loop
 mul-if1 c = search needs
 
--- src/search.rt:41:20
 shared-slice-read-if1 : tie.Need-shared-slice-read-if1 Inv-loop μ-loop
 shared-slice-read-if1 c = search needs
 
--- src/search.rt:41:20
 sub-if1 : tie.Need-sub-if1 Inv-loop μ-loop
 sub-if1 c = let l = c .before .before in let s = l .before .before in run-over (s .args .unit) (s .pre .0) (s .args .list .now) (s .pre .1 .0) _ _ (l .loop .inv) (c .before .loop-test .taken)
 
--- src/search.rt:42:13
 returns : tie.Need-returns Inv-loop μ-loop
 returns c = let l = c .before .before .before in let s = l .before .before in (l .loop .inv, run-stops (s .args .unit) (s .pre .0) (s .args .list .now) (s .pre .1 .0) _ _ (l .loop .inv) (c .before .before .loop-test .taken) (c .if1 .taken))
 
--- src/search.rt:44:9
 add-e-2 : tie.Need-add-e-2 Inv-loop μ-loop
 add-e-2 c = search needs
 
--- src/search.rt:40:5
 loop-less : tie.Need-loop-less Inv-loop μ-loop
 loop-less c = search needs
 
--- src/search.rt:40:5
 loop-again : tie.Need-loop-again Inv-loop μ-loop
 loop-again c = let l = c .before .before .before in let s = l .before .before in run-goes-on (s .args .unit) (s .pre .0) (s .args .list .now) (s .pre .1 .0) _ _ (l .loop .inv) (c .before .before .loop-test .taken) (c .if1 .left)
 
--- src/search.rt:32:1
 returns-2 : tie.Need-returns-2 Inv-loop μ-loop
 returns-2 c = let l = c .before in let s = l .before .before in (l .loop .inv, run-ends (s .args .unit) (s .pre .0) (s .args .list .now) (s .pre .1 .0) _ _ (l .loop .inv) (c .loop-test .left))
 

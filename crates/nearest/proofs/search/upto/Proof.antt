@@ -2,15 +2,12 @@
 use Prim.Native.Nat.{_-_, _+_, _*_, _≤_}
 use native.Mathlib.Omega.{arith}
 use native.Mathlib.Nat.{mul-le-mul}
-use mathlib.Core.Path.{_≡_, subst, sym}
+use mathlib.Core.Path.{_≡_, subst}
 use Prim.Native.Nat.{ℕ}
-use lib.ListN.{length, getD}
 use Rattle.nearest.proofs.Runs.{Split, split-all, split-up, split-down, split-cut, split-low}
 use borrow.Author.Needs.{needs}
 use Rattle.nearest.proofs.search.upto.Statement.{statement}
 use Rattle.nearest.proofs.search.upto.Tie as tie
-use Rattle.nearest.proofs.search.upto.Reads as reads
-use Rattle.nearest.proofs.search.upto.Lts as lts
 
 abbrev Inv-loop : tie.InvT-loop
 Inv-loop list code unit bound start₀ end₀ start end = Split list bound start end
@@ -18,55 +15,42 @@ Inv-loop list code unit bound start₀ end₀ start end = Split list bound start
 abbrev μ-loop : tie.MeasureT-loop
 μ-loop list code unit bound start₀ end₀ start end = end - start
 
--- src/search.rt:83:18
 add-bound : tie.Need-add-bound Inv-loop μ-loop
 add-bound c = search needs
 
--- src/search.rt:83:17
 mul-bound : tie.Need-mul-bound Inv-loop μ-loop
 mul-bound c = let h : c .args .code + 1 ≤ 1024 = omega (arith, c .pre .0 .2) in omega (arith, mul-le-mul h (c .pre .0 .1))
 
--- src/search.rt:86:5
 loop-holds : tie.Need-loop-holds Inv-loop μ-loop
 loop-holds c = split-all (c .args .unit) (c .pre .0 .0) (c .args .list .now) (c .pre .1) ((c .args .code + 1) * c .args .unit)
 
--- src/search.rt:87:31
 sub-middle : tie.Need-sub-middle Inv-loop μ-loop
 sub-middle c = search needs
 
--- src/search.rt:87:22
 add-middle : tie.Need-add-middle Inv-loop μ-loop
 add-middle c = search needs
 
--- src/search.rt:88:12
 mul-if1 : tie.Need-mul-if1 Inv-loop μ-loop
 mul-if1 c = search needs
 
--- src/search.rt:88:12
 shared-slice-read-if1 : tie.Need-shared-slice-read-if1 Inv-loop μ-loop
 shared-slice-read-if1 c = search needs
 
--- src/search.rt:89:21
 add-start : tie.Need-add-start Inv-loop μ-loop
 add-start c = search needs
 
--- src/search.rt:86:5
 loop-less : tie.Need-loop-less Inv-loop μ-loop
 loop-less c = search needs
 
--- src/search.rt:86:5
 loop-again : tie.Need-loop-again Inv-loop μ-loop
 loop-again c = let l = c .before .before .before in let s = l .before in split-up (s .args .unit) (s .pre .0 .0) (s .args .list .now) (s .pre .1) _ (l .loop .start) (l .loop .end) _ (l .loop .inv) (omega arith) (omega arith) (c .if1 .taken)
 
--- src/search.rt:86:5
 loop-less-2 : tie.Need-loop-less-2 Inv-loop μ-loop
 loop-less-2 c = search needs
 
--- src/search.rt:86:5
 loop-again-2 : tie.Need-loop-again-2 Inv-loop μ-loop
 loop-again-2 c = let l = c .before .before .before in let s = l .before in split-down (s .args .unit) (s .pre .0 .0) (s .args .list .now) (s .pre .1) _ (l .loop .start) (l .loop .end) _ (l .loop .inv) (omega arith) (omega arith) (c .if1 .left)
 
--- src/search.rt:78:1
 returns : tie.Need-returns Inv-loop μ-loop
 returns c =
     let l = c .before in

@@ -1,32 +1,24 @@
--- `values::beyond` meets its contract.
-use mathlib.Core.Path.{_≡_, ap}
+-- `values::beyond` meets its contract: a weight times a difference, both small.
+use mathlib.Core.Path.{ap}
 use Prim.Native.Nat.{_*_}
 use native.Mathlib.Omega.{arith}
 use Rattle.nearest.proofs.Costs.{beyond-fits}
 use borrow.Author.Needs.{needs}
 use Rattle.nearest.proofs.values.beyond.Statement.{statement}
 use Rattle.nearest.proofs.values.beyond.Tie as tie
-use Rattle.nearest.proofs.values.beyond.Reads as reads
-use Rattle.nearest.proofs.values.beyond.Lts as lts
-use Rattle.nearest.proofs.values.gap.Reads as gap-reads
 
--- src/values.rt:73:31
 add-gap : tie.Need-add-gap
 add-gap c = search needs
 
--- src/values.rt:73:21
 gap-requires : tie.Need-gap-requires
 gap-requires c κs = search needs
 
--- src/values.rt:73:21
 cast-result : tie.Need-cast-result
 cast-result c = search needs
 
--- src/values.rt:73:5
 mul-result : tie.Need-mul-result
 mul-result c = let s = c .before .before .before in omega (arith, beyond-fits (s .args .scale) (s .pre .1) (s .args .wish) (s .pre .0), ap (s .args .scale .weight *_) (c .before .gap .ensures))
 
--- src/values.rt:68:1
 returns : tie.Need-returns
 returns c = ap (c .before .before .before .args .scale .weight *_) (c .before .gap .ensures)
 

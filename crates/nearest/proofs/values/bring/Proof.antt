@@ -3,27 +3,19 @@ use Rattle.nearest.proofs.Costs.{brought-to}
 use borrow.Author.Needs.{needs}
 use Rattle.nearest.proofs.values.bring.Statement.{statement}
 use Rattle.nearest.proofs.values.bring.Tie as tie
-use Rattle.nearest.proofs.values.bring.Reads as reads
-use Rattle.nearest.proofs.values.bring.Lts as lts
-use Rattle.nearest.proofs.values.near.Reads as near-reads
 
--- src/values.rt:59:27
 add-near : tie.Need-add-near
 add-near c = search needs
 
--- src/values.rt:59:41
 add-near-2 : tie.Need-add-near-2
 add-near-2 c = search needs
 
--- src/values.rt:59:16
 near-requires : tie.Need-near-requires
 near-requires c κs = search needs
 
--- src/values.rt:59:16
 sub-code : tie.Need-sub-code
 sub-code c = search needs
 
--- src/values.rt:54:1
 returns : tie.Need-returns
 returns c = let s = c .before in brought-to (s .args .low) (s .args .high) (s .args .wish) (c .near .result) (s .args .weight) (s .args .place) (s .pre .0 .1) (s .pre .1) (c .near .ensures)
 

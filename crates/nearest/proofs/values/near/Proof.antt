@@ -5,19 +5,15 @@ use Rattle.nearest.proofs.Costs.{near-last}
 use Rattle.nearest.proofs.values.near.Statement.{statement}
 use Rattle.nearest.proofs.values.near.Tie as tie
 
--- src/values.rt:31:9
 returns : tie.Need-returns
 returns c = search needs
 
--- src/values.rt:34:16
 sub-result : tie.Need-sub-result
 sub-result c = search needs
 
--- src/values.rt:34:9
 returns-2 : tie.Need-returns-2
 returns-2 c = near-last _ _ _ _ (c .before .before .pre) (c .if2 .taken) (omega arith)
 
--- src/values.rt:26:1
 returns-3 : tie.Need-returns-3
 returns-3 c = search needs
 
