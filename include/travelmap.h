@@ -7,22 +7,22 @@
 
    What is passed. A slice is two arguments: a pointer, and a length in numbers (not in bytes and not in vertices). The
    pointer is aligned as int16_t is, and not null, also where the length is 0; as many numbers as the length says can
-   be read there, and in a result written. A result shares no memory with a list. Beyond that every argument may have
-   any value: a list need not be valid, and every number that is asked about may be any int16_t. Nothing is kept after
-   a call, no memory is taken, and functions may be called from several threads at once.
+   be read there, and in a result written. A result shares no memory with a list or with another result. Beyond that
+   every argument may have any value: a list need not be valid, and every number that is asked about may be any int16_t.
+   Nothing is kept after a call, no memory is taken, and functions may be called from several threads at once.
 
    What comes back. Every function answers one uint64_t. Every answer but those of travelmap_plane and
    travelmap_nearest has
 
        bits 56 to 63   the number: 0 when all is done, else why the call was refused (below)
-       bits 48 to 55   the operand: the list that is refused, from 1; else 0
+       bits 48 to 55   the operand: the list that is refused, or the half of a split that does not fit, from 1; else 0
        bits 32 to 47   the place: the vertex that is refused, from 0; else 0
        bits 16 to 31   the second count, where a call makes two lists; else 0
-       bits  0 to 15   the count of the vertices of the list that was made; else 0
+       bits  0 to 15   the count of the vertices (pairs) of the list that was made; else 0
 
-   and the cell query, the corner report and the distance use the lower bits as they say below. After a refusal the lower 32 bits are
-   0, and a result is untouched. After success the list stands at the front of the result, and everything behind it is
-   untouched. */
+   and the cell query, the corner report and the distance use the lower bits as they say below. After a refusal the
+   lower 32 bits are 0, and a result is untouched. After success the list stands at the front of the result, and
+   everything behind it is untouched. */
 
 #ifndef TRAVELMAP_H
 #define TRAVELMAP_H
@@ -119,6 +119,29 @@ enum travelmap_operation {
    the list stands at the front of the result. */
 uint64_t travelmap_join(uint32_t operation, const int16_t *first, size_t first_length, const int16_t *second,
                         size_t second_length, int16_t *result, size_t result_length);
+
+/* The axes of a section and of a split. */
+enum travelmap_axis {
+    TRAVELMAP_FOCUS = 0,
+    TRAVELMAP_FIRST_SHIFT = 1,
+    TRAVELMAP_SECOND_SHIFT = 2
+};
+
+/* The section at a code of an axis: the permitted squares there, as a list of pairs of numbers on the other two axes,
+   in axis order; a pair is listed when an odd number of its four surrounding squares are permitted. 9 where the axis is
+   none of the three, or the code not -512 to 511; 1 to 5 with operand 1 where the list is not valid; 6 where there are
+   more than 1,024 pairs, or twice their count is more than the result's length. Done: the count of the pairs, and they
+   stand at the front of the result, rising strictly. */
+uint64_t travelmap_section(const int16_t *list, size_t length, uint32_t axis, int16_t code, int16_t *result,
+                           size_t result_length);
+
+/* Splits a map at a number of an axis: low gets the map of the permitted cells with a code below it, high that of the
+   others. 9 where the axis is none of the three, or the number not -512 to 512; 1 to 5 with operand 1 where the list is
+   not valid; 6 where a half's list has more than 1,024 vertices, or three times its vertices is more than the length
+   of its result: with operand 1 where low does not fit, else 2. Done: the count in bits 0 to 15 is low's, the second
+   count in bits 16 to 31 is high's, and each list stands at the front of its result. */
+uint64_t travelmap_split(const int16_t *list, size_t length, uint32_t axis, int16_t at, int16_t *low, size_t low_length,
+                         int16_t *high, size_t high_length);
 
 /* The permitted cell nearest to a wish. The distance is the sum of the three differences without sign; of several cells
    the one with the lowest focus, then the lowest first shift, then the lowest second shift. Bits 48 to 63: the number, 0,

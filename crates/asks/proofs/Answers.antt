@@ -16,21 +16,21 @@ use mir.Syntax.{w16}
 use mir.Val.{SFits}
 use Rattle.meaning.specs.Numbers.{Cell, Corner, isCell}
 use Rattle.meaning.specs.Lists.{vertices, numbers, permitted, howMany, mask, Valid as Map}
-use Rattle.meaning.specs.Verdicts.{verdict}
+use Rattle.meaning.specs.Verdicts.{verdict, passes}
 use Rattle.meaning.specs.declared.Verdict.{Verdict}
 use Rattle.meaning.specs.declared.Verdict.the-variants.{Valid, NotTriples, TooMany, OutOfRange, NotRising, OddLine}
 use Rattle.meaning.specs.Counting.{count, keep}
 use Rattle.meaning.specs.Kinds.{kind}
 use Rattle.meaning.proofs.Integers.{not-yes}
 use Rattle.meaning.proofs.Maps.{valid-within}
-use Rattle.meaning.proofs.Checked.{verdict-valid}
+use Rattle.meaning.proofs.Checked.{passes-valid}
 use Rattle.kinds.proofs.Masks.{ones-mask}
 use Rattle.codes.specs.Lift.{lifted}
 use Rattle.asks.specs.declared.CellAnswer.{CellAnswer}
 use Rattle.asks.specs.declared.CellAnswer.the-variants.{Yes, No, Refused}
 use Rattle.asks.specs.declared.CornerAnswer.{CornerAnswer}
 use Rattle.asks.specs.declared.Ends.{Ends}
-use Rattle.asks.specs.Asks.{passes, cellAnswer, cellValues, valuesBy, CellPromise, CornerPromise, PlanePromise, EndsPromise, onPlane, beforePlane, throughPlane}
+use Rattle.asks.specs.Asks.{cellAnswer, cellValues, valuesBy, CellPromise, CornerPromise, PlanePromise, EndsPromise, onPlane, beforePlane, throughPlane}
 use Rattle.asks.specs.Passes.{under, leading}
 use Rattle.asks.proofs.Planes.{before-through, count-le, vertices-length, plane-start, plane-end, plane-part}
 
@@ -90,17 +90,9 @@ module _ (ns : List ℤ) (x : Corner) where
 
 -- ---- valid lists
 
-passes-valid : (v : Verdict) → passes v ≡ true → v ≡ Valid
-passes-valid Valid e = refl
-passes-valid NotTriples e = absurd (false≢true e)
-passes-valid TooMany e = absurd (false≢true e)
-passes-valid (OutOfRange i) e = absurd (false≢true e)
-passes-valid (NotRising i) e = absurd (false≢true e)
-passes-valid (OddLine i) e = absurd (false≢true e)
-
 module _ (ns : List ℤ) where
   pub passes-map : passes (verdict ns) ≡ true → Map (vertices ns)
-  passes-map p = verdict-valid ns .0 (passes-valid (verdict ns) p) .1
+  passes-map p = passes-valid ns p
 
   -- outside the codes the answer is no
   pub outside-no : (c : Cell) → passes (verdict ns) ≡ true → isCell c ≡ false → cellAnswer ns c ≡ No

@@ -1,5 +1,4 @@
 -- What the questions about one map promise (document 01, "What can be asked" and "Why a call comes back").
---   passes                        the verdict is that the list is a travel map
 --   cellAnswer                    is this cell permitted: yes or no; for a list that is not valid, its refusal
 --   CellValues, cellValues        document 01's number, operand, place and count of each answer, and its yes or no
 --   valuesBy, CellPromise         what the cell query promises: the answer, and the values that the verdict asks for
@@ -16,22 +15,13 @@ use lib.Signed.{leZ, ltZ}
 use Rattle.meaning.specs.Numbers.{Cell, Corner}
 use Rattle.meaning.specs.Counting.{count, keep}
 use Rattle.meaning.specs.Lists.{vertices, numbers, permitted, howMany, mask, same}
-use Rattle.meaning.specs.Verdicts.{verdict, refusalNumber, refusalPlace}
+use Rattle.meaning.specs.Verdicts.{verdict, passes, refusalNumber, refusalPlace}
 use Rattle.meaning.specs.Kinds.{kind}
 use Rattle.meaning.specs.declared.Verdict.{Verdict}
-use Rattle.meaning.specs.declared.Verdict.the-variants.{Valid, NotTriples, TooMany, OutOfRange, NotRising, OddLine}
 use Rattle.asks.specs.declared.CellAnswer.{CellAnswer}
 use Rattle.asks.specs.declared.CellAnswer.the-variants.{Yes, No, Refused}
 use Rattle.asks.specs.declared.CornerAnswer.{CornerAnswer}
 use Rattle.asks.specs.declared.Ends.{Ends}
-
-abbrev pub passes : Verdict → Bool
-passes Valid = true
-passes NotTriples = false
-passes TooMany = false
-passes (OutOfRange i) = false
-passes (NotRising i) = false
-passes (OddLine i) = false
 
 abbrev pub cellAnswer : List ℤ → Cell → CellAnswer
 cellAnswer ns c = cond (passes (verdict ns)) (cond (permitted (vertices ns) c) Yes No) (Refused (verdict ns))

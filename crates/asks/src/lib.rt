@@ -4,7 +4,7 @@ mod pass;
 
 ghost use mathlib.Core.Path.{_≡_};
 ghost use Rattle.meaning.specs.Numbers.{cell, corner};
-ghost use Rattle.asks.specs.Asks.{passes, CellPromise, CornerPromise, PlanePromise, EndsPromise};
+ghost use Rattle.asks.specs.Asks.{CellPromise, CornerPromise, PlanePromise, EndsPromise};
 use meaning::Verdict;
 
 // What the cell query answers.
@@ -32,26 +32,12 @@ pub struct Ends {
     pub end: usize,
 }
 
-// Whether the verdict is that the list is a travel map.
-fn is_valid(verdict: Verdict) -> bool
-    ensures { λ r. ⌜ r ≡ passes verdict ⌝ }
-{
-    match verdict {
-        Verdict::Valid => true,
-        Verdict::NotTriples => false,
-        Verdict::TooMany => false,
-        Verdict::OutOfRange(_) => false,
-        Verdict::NotRising(_) => false,
-        Verdict::OddLine(_) => false,
-    }
-}
-
 // Whether the cell is permitted.
 pub fn cell_permitted(list: &[i16], focus: i16, first: i16, second: i16) -> CellAnswer
     ensures { λ r. ⌜ CellPromise (now (list .entry)) (cell focus first second) r ⌝ }
 {
     let verdict = lists::check(list);
-    if !is_valid(verdict) {
+    if !lists::is_valid(verdict) {
         return CellAnswer::Refused(verdict);
     }
     let x = codes::lift(focus);
@@ -68,7 +54,7 @@ pub fn corner_report(list: &[i16], focus: i16, first: i16, second: i16) -> Corne
     ensures { λ r. ⌜ CornerPromise (now (list .entry)) (corner focus first second) r ⌝ }
 {
     let verdict = lists::check(list);
-    if !is_valid(verdict) {
+    if !lists::is_valid(verdict) {
         return CornerAnswer {
             verdict,
             mask: 0,
@@ -92,7 +78,7 @@ pub fn corner_report(list: &[i16], focus: i16, first: i16, second: i16) -> Corne
 pub fn plane_ends(list: &[i16], focus: i16) -> Ends
     ensures { λ r. ⌜ EndsPromise (now (list .entry)) focus r ⌝ }
 {
-    if !is_valid(lists::check(list)) {
+    if !lists::is_valid(lists::check(list)) {
         return Ends { start: 0, end: 0 };
     }
     let bound = codes::lift(focus) as u32;

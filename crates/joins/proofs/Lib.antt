@@ -1,8 +1,2 @@
--- Laws of the sweep.
-pub mod Stride
-pub mod Levels
-pub mod Pieces
-pub mod Numbers
-pub mod Turns
-pub mod Bounds
+-- Laws of a whole join.
 pub mod Whole

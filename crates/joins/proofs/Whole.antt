@@ -28,17 +28,17 @@ use Rattle.meaning.proofs.Maps.{valid-within, one-permits, one-rising, one-corn
 use Rattle.meaning.proofs.Making.{join-within}
 use Rattle.meaning.specs.Verdicts.{verdict, passes}
 use Rattle.meaning.specs.declared.Verdict.{Verdict}
-use Rattle.meaning.proofs.Checked.{verdict-valid}
 use Rattle.codes.specs.Keys.{keyOf, ofKey}
 use Rattle.keys.specs.Parts.{KeyOk, keyFits}
 use Rattle.keys.proofs.Corners.{keys-ok, keys-rise, permitted-corners, one-keys}
 use Rattle.rising.specs.Merged.{From, merged, lessBase}
 use Rattle.rising.proofs.Sums.{sum-merged, from-merged, all-merged, length-merged}
 use Rattle.joins.specs.Join.{joinedList, fitsIn, madeAnswer, madeContents, roomAnswer, roomContents, JoinMade, answerBy, contentsBy}
-use Rattle.joins.specs.Sweep.{planeFits, planeOk, holdsBy, Means, Joined, Roomy, Working}
+use Rattle.sweep.specs.Sweep.{planeFits, planeOk, holdsBy, Means, Joined, Roomy}
+use Rattle.joins.specs.Room.{Working}
 use Rattle.joins.specs.declared.Joining.{Joining}
 use Rattle.joins.specs.declared.Joining.the-variants.{Done, BadOperation, FirstRefused, SecondRefused, NoRoom}
-use Rattle.joins.proofs.Pieces.{less-zero, front-of}
+use Rattle.sweep.proofs.Pieces.{less-zero, front-of}
 
 -- ---- keys of the sweep are keys of corners
 
@@ -234,6 +234,17 @@ module _ (a b : List ℤ) (va : Valid (vertices a)) (vb : Valid (vertices b)) (r
 
 -- ---- the sweep in working room
 
+-- what a sweep into the first places of a working list leaves, when that part is back in its place: a list that fits is the result, with
+-- keys that are in range; where it does not fit there is no room
+pub record Left (op : ℕ) (a b : List ℤ) (most n : ℕ) (now : List ℕ) : Type 0 where
+  pub long : (tail : List ℕ) → n ≤ most → length (take n (now ++ tail)) ≡ n
+  pub room : (tail : List ℕ) → n ≤ most → n ≤ length (now ++ tail)
+  pub ok : (tail : List ℕ) → n ≤ most → All KeyOk (take n (now ++ tail))
+  pub done : (tail : List ℕ) (before after : List ℤ) → n ≤ most → after ≡ numbers (map ofKey (take n (now ++ tail))) ++ drop (3 * length (take n (now ++ tail))) before
+      → (o : Operation) → operation op ≡ some o → (Done n ≡ roomAnswer (joinedList o a b) most) × (after ≡ roomContents (joinedList o a b) most before)
+  pub short : (before : List ℤ) → most < n
+      → (o : Operation) → operation op ≡ some o → (NoRoom ≡ roomAnswer (joinedList o a b) most) × (before ≡ roomContents (joinedList o a b) most before)
+
 module _ (op : ℕ) (a b : List ℤ) (va : Valid (vertices a)) (vb : Valid (vertices b)) (most n : ℕ) (ka kb kr now : List ℕ) (ra rb : ℕ)
     (fa : take ra ka ≡ map keyOf (vertices a)) (fb : take rb kb ≡ map keyOf (vertices b)) (hm : most ≤ length kr)
     (j : Joined planeFits planeOk (holdsBy op) (take ra ka) (take rb kb) (take most kr) now n) where
@@ -247,16 +258,16 @@ module _ (op : ℕ) (a b : List ℤ) (va : Valid (vertices a)) (vb : Valid (vert
   back : (tail : List ℕ) → n ≤ most → take n (now ++ tail) ≡ take n now
   back tail h = take-append-le n now tail (omega (arith, j .long, lent))
 
-  pub back-length : (tail : List ℕ) → n ≤ most → length (take n (now ++ tail)) ≡ n
+  back-length : (tail : List ℕ) → n ≤ most → length (take n (now ++ tail)) ≡ n
   back-length tail h = ap length (back tail h) ∙ length-take-le n now (omega (arith, j .long, lent))
 
-  pub back-room : (tail : List ℕ) → n ≤ most → n ≤ length (now ++ tail)
+  back-room : (tail : List ℕ) → n ≤ most → n ≤ length (now ++ tail)
   back-room tail h = omega (arith, length-append now tail, j .long, lent)
 
-  pub back-ok : (tail : List ℕ) → n ≤ most → All KeyOk (take n (now ++ tail))
+  back-ok : (tail : List ℕ) → n ≤ most → All KeyOk (take n (now ++ tail))
   back-ok tail h = subst (All KeyOk) (sym (back tail h)) (all-map (take n now) plane-of-key (j .proper (omega (arith, lent))))
 
-  pub sweep-done : (tail : List ℕ) (before after : List ℤ) → n ≤ most → after ≡ numbers (map ofKey (take n (now ++ tail))) ++ drop (3 * length (take n (now ++ tail))) before
+  sweep-done : (tail : List ℕ) (before after : List ℤ) → n ≤ most → after ≡ numbers (map ofKey (take n (now ++ tail))) ++ drop (3 * length (take n (now ++ tail))) before
       → (o : Operation) → operation op ≡ some o → (Done n ≡ roomAnswer (joinedList o a b) most) × (after ≡ roomContents (joinedList o a b) most before)
   sweep-done tail before after h w o is =
       let r = ap (map ofKey) (back tail h) ∙ swept op o is a b va vb (take most kr) now n on-keys (omega (arith, lent)) in
@@ -266,7 +277,7 @@ module _ (op : ℕ) (a b : List ℤ) (va : Valid (vertices a)) (vb : Valid (vert
         w ∙ ap₂ (λ x k. numbers x ++ drop (3 * k) before) r (back-length tail h ∙ l) ∙ sym (ap (λ t. cond t (numbers (joinedList o a b) ++ drop (3 * length (joinedList o a b)) before) before) f),
       )
 
-  pub sweep-short : (before : List ℤ) → most < n
+  sweep-short : (before : List ℤ) → most < n
       → (o : Operation) → operation op ≡ some o → (NoRoom ≡ roomAnswer (joinedList o a b) most) × (before ≡ roomContents (joinedList o a b) most before)
   sweep-short before h o is =
       let s = swept-short op o is a b va vb (take most kr) now n on-keys (omega (arith, lent)) in
@@ -274,6 +285,9 @@ module _ (op : ℕ) (a b : List ℤ) (va : Valid (vertices a)) (vb : Valid (vert
         sym (ap (λ t. cond t (Done (length (joinedList o a b))) NoRoom) f),
         sym (ap (λ t. cond t (numbers (joinedList o a b) ++ drop (3 * length (joinedList o a b)) before) before) f),
       )
+
+  pub left : Left op a b most n now
+  left = record { long = back-length; room = back-room; ok = back-ok; done = sweep-done; short = sweep-short }
 
 -- room for as many as fit is room for the list
 pub as-fits : (l : List Corner) (room most : ℕ) → most ≡ min mostVertices (room / 3) → leb (length l) most ≡ fitsIn l room
@@ -381,15 +395,3 @@ module _ (op : ℕ) (a b before : List ℤ) where
 
         pub joined-all : (r : Joining) (after : List ℤ) → ((o : Operation) → operation op ≡ some o → (r ≡ madeAnswer (joinedList o a b) (length before)) × (after ≡ madeContents (joinedList o a b) before)) → JoinMade op a b before r after
         joined-all r after m = let (o, is) = op-some op low high in joined-by o is r after (m o is)
-
--- a list whose verdict passes is valid
-pub passes-valid : (ns : List ℤ) → passes (verdict ns) ≡ true → Valid (vertices ns)
-passes-valid ns e = verdict-valid ns .0 (passed (verdict ns) e) .1
-  where
-    passed : (v : Verdict) → passes v ≡ true → v ≡ Verdict.Valid
-    passed Verdict.Valid h = refl
-    passed Verdict.NotTriples h = absurd (false≢true h)
-    passed Verdict.TooMany h = absurd (false≢true h)
-    passed (Verdict.OutOfRange i) h = absurd (false≢true h)
-    passed (Verdict.NotRising i) h = absurd (false≢true h)
-    passed (Verdict.OddLine i) h = absurd (false≢true h)

@@ -1,3 +1,3 @@
--- Joins: the promise (Join), and inner definitions that the engine's promises cite (Sweep).
+-- Joins: the promise (Join), and the working room of the engine (Room).
 pub mod Join
-pub mod Sweep
+pub mod Room

@@ -1,7 +1,5 @@
 // The four operations on two travel maps. The engine is the sweep of report section 4, plane by plane, with both maps' planes at one number
-// taken together; exclusive or is one merge. It relies on `lists` for the check and on `keys` for lists of keys.
-mod sweep;
-
+// taken together; exclusive or is one merge. It relies on `lists` for the check, on `keys` for lists of keys and on `sweep` for the engine.
 ghost use mathlib.Core.Path.{_≡_};
 ghost use mathlib.Core.Bool.{true};
 ghost use mathlib.Core.Option.{some};
@@ -11,7 +9,7 @@ ghost use Rattle.meaning.specs.Lists.{vertices, mostVertices, Valid};
 ghost use Rattle.meaning.specs.Operations.{Operation, operation, exclusive};
 ghost use Rattle.meaning.specs.Verdicts.{verdict, passes};
 ghost use Rattle.joins.specs.Join.{joinedList, madeAnswer, madeContents, roomAnswer, roomContents, JoinMade};
-ghost use Rattle.joins.specs.Sweep.{Working};
+ghost use Rattle.joins.specs.Room.{Working};
 use meaning::MOST_VERTICES;
 use meaning::Verdict;
 
@@ -39,20 +37,6 @@ const EXCLUSIVE: u32 = 4;
 
 // Room for a merge of two sections.
 const ROOM: usize = 2 * MOST_VERTICES;
-
-// Whether the verdict is that the list is a travel map.
-fn is_valid(verdict: Verdict) -> bool
-    ensures { λ r. ⌜ r ≡ passes verdict ⌝ }
-{
-    match verdict {
-        Verdict::Valid => true,
-        Verdict::NotTriples => false,
-        Verdict::TooMany => false,
-        Verdict::OutOfRange(_) => false,
-        Verdict::NotRising(_) => false,
-        Verdict::OddLine(_) => false,
-    }
-}
 
 // How many vertices a result of so many numbers has room for, at most as many as a list may have.
 fn fitting(numbers: usize) -> usize
@@ -165,12 +149,12 @@ fn join_by_merge(a: &[i16], b: &[i16], out: &mut [i16]) -> Joining
     let mut room = [0u32; ROOM];
     let na = keys::read(a, &mut ka);
     let nb = keys::read(b, &mut kb);
-    let n = rising::merge(&ka[..na], &kb[..nb], 0, &mut room);
-    if fitting(out.len()) < n {
+    let count = rising::merge(&ka[..na], &kb[..nb], 0, &mut room);
+    if fitting(out.len()) < count {
         return Joining::NoRoom;
     }
-    keys::write(&room[..n], out);
-    Joining::Done(n)
+    keys::write(&room[..count], out);
+    Joining::Done(count)
 }
 
 // Joins two maps by operation 1 union, 2 overlap, 3 first without second or 4 exclusive or, into the front of out.
@@ -184,11 +168,11 @@ pub fn join(op: u32, a: &[i16], b: &[i16], out: &mut [i16]) -> Joining
         return Joining::BadOperation;
     }
     let first = lists::check(a);
-    if !is_valid(first) {
+    if !lists::is_valid(first) {
         return Joining::FirstRefused(first);
     }
     let second = lists::check(b);
-    if !is_valid(second) {
+    if !lists::is_valid(second) {
         return Joining::SecondRefused(second);
     }
     if op == EXCLUSIVE {

@@ -3,7 +3,6 @@ pub mod Vertices
 pub mod First
 pub mod Flags
 pub mod Rising
-pub mod Pairs
 pub mod Lines
 pub mod Verdicts
 pub mod Ends

@@ -3,6 +3,7 @@
 --   at-vertices       the vertex at a place is the corner of the numbers 3i, 3i + 1 and 3i + 2
 --   outside-at, falls-at, falls-key     the tests of the verdict, at a place
 --   at-number         each of those places is within the list
+--   numbers-range               a list of corner numbers is in range
 --   number-in, steps-in         each number of a list in range is a corner number, with at most 1024 steps
 --   all-by            every member of a list, by its places
 use mathlib.Core.Path.{_≡_, refl, sym, _∙_, ap, ap₂}
@@ -20,7 +21,8 @@ use Rattle.meaning.specs.Verdicts.{at, outsideAt, fallsAt}
 use Rattle.codes.specs.Keys.{keyOf, cornerAt}
 use Rattle.codes.proofs.Laws.{number-steps-le}
 use Rattle.codes.proofs.Keys.{corner-numbers, below-key}
-use Rattle.lists.specs.Check.{InRange}
+use Rattle.lists.specs.Check.{AllNumbers, InRange}
+use Rattle.lists.proofs.Flags.{all-third}
 
 pub length-vertices : (ns : List ℤ) → length (vertices ns) ≡ length ns / 3
 length-vertices [] = refl
@@ -59,6 +61,14 @@ falls-key ns (suc i) r h l =
 
 pub at-number : (ns : List ℤ) (i a : ℕ) → i < length (vertices ns) → a < 3 → 3 * i + a < length ns
 at-number ns i a h k = omega (arith, length-vertices ns)
+
+pub numbers-range : (ns : List ℤ) → AllNumbers ns → InRange ns
+numbers-range ns all i h =
+    let v = cornerAt ns i in
+    let n = length-vertices ns in
+    sym
+    (all-third (isNumber (v .focus)) (isNumber (v .first)) (isNumber (v .second)) (all (3 * i) (omega arith)) (all (3 * i + 1) (omega arith))
+    (sym (all (3 * i + 2) (omega arith))))
 
 first-place : (i : ℕ) → 3 * i + 0 ≡ 3 * i
 first-place i = omega arith

@@ -8,11 +8,10 @@ ghost use lib.ListN.{length, getD, drop};
 ghost use Rattle.meaning.specs.Numbers.{Axis, isNumber, isCorner};
 ghost use Rattle.meaning.specs.Counting.{first};
 ghost use Rattle.meaning.specs.Lists.{vertices, numbers, mostVertices};
-ghost use Rattle.meaning.specs.Verdicts.{outsideAt, fallsAt, onOddLineAt};
-ghost use Rattle.lines.specs.Odd.{firstOdd};
+ghost use Rattle.meaning.specs.Verdicts.{outsideAt, fallsAt, onOddLineAt, passes};
 ghost use Rattle.codes.specs.Keys.{cornerAt};
 ghost use Rattle.lists.specs.Box.{goodEnd, goodEnds, boxVertices, BoxMade};
-ghost use Rattle.lists.specs.Check.{Checked, InRange, Offsets, Filled, firstOn};
+ghost use Rattle.lists.specs.Check.{Checked, AllNumbers, InRange, AllRise, Offsets, Filled, firstOn};
 use codes::HIGHEST;
 use codes::LINE;
 use codes::LOWEST;
@@ -51,11 +50,28 @@ fn corner_at(list: &[i16], i: usize) -> bool
     number_at(list, NUMBERS * i + 2)
 }
 
+// Whether every number is a corner number. No early end: several are tested at once.
+fn all_numbers(list: &[i16]) -> bool
+    ensures { λ r. ⌜ (r ≡ true → AllNumbers (now (list .entry))) ⌝ }
+{
+    let n = list.len();
+    let mut good = true;
+    let mut i = 0;
+    while i < n {
+        good &= number_at(list, i);
+        i += 1;
+    }
+    good
+}
+
 // The first vertex that is no corner, or the count of vertices.
 fn first_outside(list: &[i16]) -> usize
     ensures { λ r. ⌜ r ≡ first (outsideAt (vertices (now (list .entry)))) (length (vertices (now (list .entry)))) ⌝ }
 {
     let n = list.len() / NUMBERS;
+    if all_numbers(list) {
+        return n;
+    }
     let mut place = 0;
     while place < n {
         if !corner_at(list, place) {
@@ -66,23 +82,41 @@ fn first_outside(list: &[i16]) -> usize
     n
 }
 
+// Whether each vertex stands above the one before it. No early end: several are tested at once.
+fn all_rise(list: &[i16]) -> bool
+    requires { ⌜ InRange (now list) ⌝ }
+    ensures { λ r. ⌜ (r ≡ true → AllRise (now (list .entry))) ⌝ }
+{
+    let n = list.len() / NUMBERS;
+    if n == 0 {
+        return true;
+    }
+    let mut last = codes::key_at(list, 0);
+    let mut good = true;
+    let mut i = 1;
+    while i < n {
+        let key = codes::key_at(list, i);
+        good &= last < key;
+        last = key;
+        i += 1;
+    }
+    good
+}
+
 // The first vertex that does not stand above the one before it, or the count of vertices.
 fn first_falling(list: &[i16]) -> usize
     requires { ⌜ InRange (now list) ⌝ }
     ensures { λ r. ⌜ r ≡ first (fallsAt (vertices (now (list .entry)))) (length (vertices (now (list .entry)))) ⌝ }
 {
     let n = list.len() / NUMBERS;
-    if n == 0 {
-        return 0;
+    if all_rise(list) {
+        return n;
     }
-    let mut last = codes::key_at(list, 0);
     let mut i = 1;
     while i < n {
-        let key = codes::key_at(list, i);
-        if key <= last {
+        if codes::key_at(list, i) <= codes::key_at(list, i - 1) {
             return i;
         }
-        last = key;
         i += 1;
     }
     n
@@ -112,30 +146,6 @@ fn lesser(a: usize, b: usize) -> usize
     if a < b { a } else { b }
 }
 
-// Whether each key at an even place is followed by the same key: then every key occurs an even number of times.
-fn paired(keys: &[u32]) -> bool
-    ensures { λ r. ⌜ (r ≡ true → firstOdd (now (keys .entry)) ≡ length (now (keys .entry))) ⌝ }
-{
-    let mut i = 0;
-    while i + 1 < keys.len() {
-        if keys[i] != keys[i + 1] {
-            return false;
-        }
-        i += 2;
-    }
-    i == keys.len()
-}
-
-// The first place whose key occurs an odd number of times, or the count of keys.
-fn first_odd_key(keys: &[u32]) -> usize
-    ensures { λ r. ⌜ r ≡ firstOdd (now (keys .entry)) ⌝ }
-{
-    if paired(keys) {
-        return keys.len();
-    }
-    lines::first_odd(keys)
-}
-
 // The first vertex whose numbers at offsets a and b are those of an odd number of vertices, or the count of vertices.
 fn first_odd_pair(list: &[i16], a: usize, b: usize, keys: &mut [u32]) -> usize
     requires { ⌜ InRange (now list) ⌝ }
@@ -146,7 +156,7 @@ fn first_odd_pair(list: &[i16], a: usize, b: usize, keys: &mut [u32]) -> usize
 {
     let n = list.len() / NUMBERS;
     fill(list, a, b, keys);
-    first_odd_key(&keys[..n])
+    lines::first_odd(&keys[..n])
 }
 
 // The first vertex on an odd line of any axis, or the count of vertices; keys is room to work in.
@@ -224,6 +234,20 @@ pub fn check(list: &[i16]) -> Verdict
         return Verdict::OddLine(odd);
     }
     Verdict::Valid
+}
+
+// Whether the verdict is that the list is a travel map.
+pub fn is_valid(verdict: Verdict) -> bool
+    ensures { λ r. ⌜ r ≡ passes verdict ⌝ }
+{
+    match verdict {
+        Verdict::Valid => true,
+        Verdict::NotTriples => false,
+        Verdict::TooMany => false,
+        Verdict::OutOfRange(_) => false,
+        Verdict::NotRising(_) => false,
+        Verdict::OddLine(_) => false,
+    }
 }
 
 // What making a box answers.

@@ -1,6 +1,7 @@
 -- The check's verdict and validity.
 --   First, first-is, is-first   what the first place that passes a test is, and that it is the only such place
 --   verdict-valid               the verdict is Valid exactly when the numbers come in threes and their vertices are a valid list
+--   passed, passes-valid        a verdict that passes is Valid, and the list is then a valid one
 -- Assumes nothing.
 use mathlib.Core.Path.{_≡_, refl, sym, _∙_, ap, ap₂, subst}
 use mathlib.Core.Logic.{_↔_}
@@ -15,7 +16,7 @@ use borrow.Author.Tests.{ltb-true, ltb-false, lt-ltb, le-ltb, leb-true, leb-fals
 use Rattle.meaning.specs.Numbers.{Axis, focus, first as first·shift, second, Corner, Pair, pairOf, isCorner}
 use Rattle.meaning.specs.Counting.{All, first, odd, count}
 use Rattle.meaning.specs.Lists.{vertices, below, Rising, onLine, oddLine, samePair, mostVertices, Valid}
-use Rattle.meaning.specs.Verdicts.{at, outsideAt, fallsAt, onOddLineAt, unlessAt, verdictOf, verdict, refusalNumber}
+use Rattle.meaning.specs.Verdicts.{at, outsideAt, fallsAt, onOddLineAt, unlessAt, verdictOf, verdict, passes, refusalNumber}
 use Rattle.meaning.specs.declared.Verdict.{Verdict}
 use Rattle.meaning.specs.declared.Verdict.the-variants.{Valid as Passed, NotTriples, TooMany, OutOfRange, NotRising, OddLine}
 use Rattle.meaning.proofs.Parity.{odd-count, sum-some}
@@ -168,3 +169,14 @@ verdict-valid ns = (λ e. whole (eqb (length ns % 3) 0) refl e, λ r. back (r .0
         unless-none (outsideAt l) n OutOfRange _ (λ k p. ap not (place-all (λ v. isCorner v ≡ true) l (h .corners) k p)) ∙
         unless-none (fallsAt l) n NotRising _ (rising-places l (h .rising)) ∙
         unless-none (onOddLineAt l) n OddLine Passed (none-odd h)
+
+pub passed : (v : Verdict) → passes v ≡ true → v ≡ Passed
+passed Passed e = refl
+passed NotTriples e = absurd (false≢true e)
+passed TooMany e = absurd (false≢true e)
+passed (OutOfRange i) e = absurd (false≢true e)
+passed (NotRising i) e = absurd (false≢true e)
+passed (OddLine i) e = absurd (false≢true e)
+
+pub passes-valid : (ns : List ℤ) → passes (verdict ns) ≡ true → Valid (vertices ns)
+passes-valid ns e = verdict-valid ns .0 (passed (verdict ns) e) .1

@@ -14,8 +14,8 @@ use Rattle.nearest.specs.Search.{apart, Near, value, Sound, Least, Broug
 use Rattle.nearest.specs.declared.values.Scale.{Scale}
 
 -- a wish above a stretch is nearest to its last code
-pub near-last : (wish low high : ℕ) → low < high → high ≤ wish → Near wish low high (high - 1)
-near-last wish low high h k = record { from = omega arith; below = omega arith; between = λ c p q. last (high - 1) c (omega arith) (omega arith) }
+pub near-last : (wish low high r : ℕ) → low < high → high ≤ wish → r + 1 ≡ high → Near wish low high r
+near-last wish low high r h k e = record { from = omega arith; below = omega arith; between = λ c p q. last r c (omega arith) (omega arith) }
   where
     last : (n c : ℕ) → c ≤ n → n ≤ wish → apart wish n + apart n c ≤ apart wish c
     last n c p q = omega arith

@@ -2,6 +2,7 @@
 --   test-fits           the search tests what a key's parts say
 --   by-codes            a permitted cell by its codes counted from 0
 --   within-codes, some-cell     of a valid list: its cells lie within the codes; one that is not empty permits a cell
+--   of-keys             the least rank of a list of keys is that of an equal one
 --   ranked              the least rank that the search finds, and what the ways to the scales' codes count, is the least rank of the permitted cells
 --   ranked-nearest      the least rank is the nearest cell and its distance
 -- Assumes nothing.
@@ -28,7 +29,7 @@ use Rattle.codes.specs.Lift.{lowered}
 use Rattle.codes.proofs.Tests.{lex}
 use Rattle.keys.specs.Parts.{keyFits}
 use Rattle.keys.proofs.Corners.{permitted-corners}
-use Rattle.nearest.specs.Search.{apart, value, Sound, Best, Rank, mapIn, rankOf, Ranked, Brought}
+use Rattle.nearest.specs.Search.{apart, value, Sound, Best, Depth, Rank, mapIn, rankOf, Ranked, Brought}
 use Rattle.nearest.specs.declared.values.Scale.{Scale}
 use Rattle.nearest.proofs.Costs.{value-small}
 use Rattle.nearest.proofs.Distances.{distance-apart}
@@ -88,6 +89,9 @@ some-cell (v ∷ l) valid h = some-permitted v l (valid .rising)
 
 -- ---- from the search to the least rank
 
+pub of-keys : {D : Depth} {k l : List ℕ} {none r : ℕ} → k ≡ l → Best (Rank D k 0) none r → Best (Rank D l 0) none r
+of-keys {D} {k} {l} {none} {r} e b = subst (λ (m : List ℕ). Best (Rank D m 0) none r) e b
+
 module _ (ns : List ℤ) (valid : Valid (vertices ns)) (u v t : ℕ) (A B D : Scale) (la ha lb hb ld hd : ℕ)
     (brought-a : Brought u la ha (weight focus) 1048576 A)
     (brought-b : Brought v lb hb (weight first) 1024 B)
@@ -129,7 +133,8 @@ module _ (ns : List ℤ) (valid : Valid (vertices ns)) (u v t : ℕ) (A B D : Sc
         permitted-corners a b d (vertices ns) (valid .corners) ∙
         sym (sum-ext (mapIn A B D .test (a, (b, (d, tt)))) (keyFits a b d) (map keyOf (vertices ns)) (test-fits A B D a b d))
 
-    module _ (r : ℕ) (best : Best (Rank (mapIn A B D) (map keyOf (vertices ns)) 0) (2 ^ 60) r) where
+    -- the least of the ranks and of a number above them all
+    module _ {none : ℕ} (r : ℕ) (best : Best (Rank (mapIn A B D) (map keyOf (vertices ns)) 0) none r) (above : 3 * 17592186044416 ≤ none) where
       below : (a b d : ℕ) → (a < 1024) × (b < 1024) × (d < 1024) → permitted (vertices ns) (cellAt a b d) ≡ true → r ≤ mapIn A B D .worth (a, (b, (d, tt)))
       below a b d k e =
           let p = best .least (0 + mapIn A B D .worth (a, (b, (d, tt)))) (record { at = (a, (b, (d, tt))); within = (k .0, (k .1, (k .2, tt))); member = sym (member-of a b d) ∙ e; is = refl }) in
@@ -138,7 +143,7 @@ module _ (ns : List ℤ) (valid : Valid (vertices ns)) (u v t : ℕ) (A B D : Sc
       found : (c : Cell) → permitted (vertices ns) c ≡ true → Rank (mapIn A B D) (map keyOf (vertices ns)) 0 r
       found c e = go (best .from)
         where
-          go : (r ≡ 2 ^ 60) ⊎ Rank (mapIn A B D) (map keyOf (vertices ns)) 0 r → Rank (mapIn A B D) (map keyOf (vertices ns)) 0 r
+          go : (r ≡ none) ⊎ Rank (mapIn A B D) (map keyOf (vertices ns)) 0 r → Rank (mapIn A B D) (map keyOf (vertices ns)) 0 r
           go (inr h) = h
           go (inl h) =
               let k = by-codes c (valid-within (vertices ns) valid c e) in

@@ -5,6 +5,7 @@ ghost use Prim.Native.Nat.{_+_, _/_, _%_, _<_, _≤_, _^_};
 ghost use lib.ListN.{length};
 ghost use Rattle.meaning.specs.Numbers.{cell, number};
 ghost use Rattle.meaning.specs.Lists.{vertices, Valid, mostVertices};
+ghost use Rattle.meaning.specs.Verdicts.{verdict};
 ghost use Rattle.codes.specs.Lift.{lowered};
 ghost use Rattle.nearest.specs.Answer.{Answered};
 ghost use Rattle.nearest.specs.Search.{Ranked};
@@ -148,14 +149,11 @@ fn answer(rank: u64) -> Found
     Found::At(focus, first, second, (rank / DISTANCE) as u32)
 }
 
-// The permitted cell nearest to a wish, with its distance: of several the one with the lowest focus, then first shift, then second.
-pub fn nearest(list: &[i16], focus: i16, first: i16, second: i16) -> Found
+// Inner: what `nearest` answers of a list that is valid, for a caller that has checked its list once and has many wishes.
+pub fn nearest_of_map(list: &[i16], focus: i16, first: i16, second: i16) -> Found
+    requires { ⌜ verdict (now list) ≡ Verdict.Valid ⌝ }
     ensures { λ r. ⌜ Answered (now (list .entry)) (cell focus first second) r ⌝ }
 {
-    let verdict = lists::check(list);
-    let Verdict::Valid = verdict else {
-        return Found::Refused(verdict);
-    };
     if list.len() == 0 {
         return Found::Empty;
     }
@@ -166,4 +164,15 @@ pub fn nearest(list: &[i16], focus: i16, first: i16, second: i16) -> Found
         return answer(rank_of_few(list, a, b, d));
     }
     answer(rank_of_many(list, a, b, d))
+}
+
+// The permitted cell nearest to a wish, with its distance: of several the one with the lowest focus, then first shift, then second.
+pub fn nearest(list: &[i16], focus: i16, first: i16, second: i16) -> Found
+    ensures { λ r. ⌜ Answered (now (list .entry)) (cell focus first second) r ⌝ }
+{
+    let verdict = lists::check(list);
+    let Verdict::Valid = verdict else {
+        return Found::Refused(verdict);
+    };
+    nearest_of_map(list, focus, first, second)
 }

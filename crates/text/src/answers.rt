@@ -142,7 +142,7 @@ fn answer(list: &[i16], wishes: &[i16], i: usize) -> [u8; ANSWER_LINE]
     ensures { λ r. ⌜ AnswerLine (vertices (now (list .entry))) (wishAt (now (wishes .entry)) i) r ⌝ }
 {
     let at = NUMBERS * i;
-    match nearest::nearest(list, wishes[at], wishes[at + 1], wishes[at + 2]) {
+    match nearest::nearest_of_map(list, wishes[at], wishes[at + 1], wishes[at + 2]) {
         Found::At(focus, first, second, _) => cell_line(focus, first, second),
         Found::Empty => empty_line(),
         Found::Refused(_) => empty_line(),

@@ -6,10 +6,12 @@
 --   part-empty, part-some                    the packed part
 --   back-one, back-three, box-packed         a signed number that is passed on comes back from its bits
 --   join-few                                 bounds on the place and the count of a join
+--   code-back, section-few                   the code that is passed on comes back; bounds on the place and the count of a section
+--   at-back, split-few                       the number that is passed on comes back; bounds on the place and the counts of a split
 --   bits-lifted                              the 16 bits of a number, from its lift
 --   wish-back                                the wish that is passed on comes back
 --   found-few                                the place that nearest names is that of a vertex of a list that is not too long
---   check-settled, cell-settled, corner-settled, plane-settled, box-settled, join-settled, nearest-settled, distance-settled    any two outcomes that a promise allows are equal
+--   check-settled, cell-settled, corner-settled, plane-settled, box-settled, join-settled, section-settled, split-settled, nearest-settled, distance-settled    any two outcomes that a promise allows are equal
 use mathlib.Core.Path.{_≡_, refl, sym, _∙_, ap, subst}
 use mathlib.Core.Bool.{Bool, true, false, cond, _&&_}
 use mathlib.Core.List.{List}
@@ -23,17 +25,17 @@ use lib.ListN.{length}
 use mir.Syntax.{w16}
 use mir.Val.{SFits, toZ, ofZ}
 use mir.ValLaws.{toZ-ofZ}
-use Rattle.meaning.specs.Numbers.{Cell, Corner, cell}
-use Rattle.meaning.specs.Operations.{Operation, operation}
-use Rattle.meaning.proofs.Integers.{and-left}
+use Rattle.meaning.specs.Numbers.{Axis, Cell, Corner, Pair, cell, isCode, isNumber}
+use Rattle.meaning.specs.Operations.{Operation, operation, axisOf}
+use Rattle.meaning.proofs.Integers.{and-left, and-right}
 use Rattle.meaning.specs.Counting.{count, first}
 use Rattle.meaning.specs.Lists.{vertices, permitted, surrounding, howMany, mostVertices}
-use Rattle.meaning.specs.Verdicts.{outsideAt, fallsAt, onOddLineAt, unlessAt, verdictOf, verdict, refusalNumber, refusalPlace}
+use Rattle.meaning.specs.Verdicts.{outsideAt, fallsAt, onOddLineAt, unlessAt, verdictOf, verdict, passes, refusalNumber, refusalPlace}
 use Rattle.meaning.specs.declared.Verdict.{Verdict}
 use Rattle.meaning.specs.declared.Verdict.the-variants.{Valid, NotTriples, TooMany, OutOfRange, NotRising, OddLine}
-use Rattle.lists.specs.Box.{valuesOf, boxValues, boxContents, BoxMade}
+use Rattle.lists.specs.Box.{Values, valuesOf, boxValues, boxContents, BoxMade}
 use Rattle.lists.specs.declared.Boxed.{Boxed}
-use Rattle.asks.specs.Asks.{passes, cellValues, CellPromise, CornerPromise, EndsPromise, throughPlane}
+use Rattle.asks.specs.Asks.{cellValues, CellPromise, CornerPromise, EndsPromise, throughPlane}
 use Rattle.asks.specs.declared.CellAnswer.{CellAnswer}
 use Rattle.asks.specs.declared.CornerAnswer.{CornerAnswer}
 use Rattle.asks.specs.declared.Ends.{Ends}
@@ -42,12 +44,18 @@ use Rattle.asks.proofs.Answers.{passes-map, ends-within}
 use Rattle.joins.specs.Join.{joinedList, fitsIn, madeAnswer, answerBy, JoinMade, joinValues}
 use Rattle.joins.specs.declared.Joining.{Joining}
 use Rattle.joins.specs.declared.Joining.the-variants.{Done, FirstRefused, SecondRefused, NoRoom}
+use Rattle.cuts.specs.Answers.{fits, asked, checked, sectionValues, SectionOutcome, sectionKept, sectionPairs, placedPairs, sectionOutcome, SectionPromise, splitValues, SplitOutcome, splitKept, lowerList, upperList, placedHalves, splitOutcome, SplitPromise}
+use Rattle.cuts.specs.declared.Sectioned.{Sectioned}
+use Rattle.cuts.specs.declared.Halved.{Halved}
+use Rattle.cuts.specs.declared.Sectioned.the-variants as section
+use Rattle.cuts.specs.declared.Halved.the-variants as split
+use Rattle.cuts.proofs.Promises.{section-settled as one-section, split-settled as one-split}
 use Rattle.codes.specs.Lift.{lifted}
 use Rattle.nearest.specs.Answer.{outcome, Answered}
 use Rattle.nearest.specs.declared.Found.{Found}
 use Rattle.nearest.specs.declared.Found.the-variants.{At, Empty, Refused}
 use Rattle.nearest.proofs.Answers.{settled}
-use Rattle.travelmap.specs.Packed.{packed, packedRefusal, packedVerdict, packedPart, packedValues, threeAxes, CheckPacked, CellPacked, CornerPacked, PlanePacked, BoxPacked, JoinPacked, twosComplement, packedNearest, packedDistance, NearestPacked, DistancePacked}
+use Rattle.travelmap.specs.Packed.{packed, packedRefusal, packedVerdict, packedPart, packedValues, threeAxes, CheckPacked, CellPacked, CornerPacked, PlanePacked, BoxPacked, JoinPacked, SectionPacked, packedSplit, SplitPacked, twosComplement, packedNearest, packedDistance, NearestPacked, DistancePacked}
 
 -- ---- back again
 
@@ -183,31 +191,99 @@ module _ (a a′ b b′ d d′ : ℤ) (p : SFits w16 a) (p′ : SFits w16 a′) 
 -- ---- the join
 
 -- the place and the count are those of a list that is not too long
-abbrev Few : Joining → Type 0
-Few r = (joinValues r .place ≤ mostVertices) × (joinValues r .count ≤ mostVertices)
+abbrev Few : Values → Type 0
+Few v = (v .place ≤ mostVertices) × (v .count ≤ mostVertices)
 
-made-few : (l : List Corner) (room : ℕ) → Few (madeAnswer l room)
+made-few : (l : List Corner) (room : ℕ) → Few (joinValues (madeAnswer l room))
 made-few l room = go (fitsIn l room) refl
   where
-    go : (t : Bool) → fitsIn l room ≡ t → Few (cond t (Done (length l)) NoRoom)
+    go : (t : Bool) → fitsIn l room ≡ t → Few (joinValues (cond t (Done (length l)) NoRoom))
     go true e = (omega arith, leb-true (length l) mostVertices (and-left (leb (length l) mostVertices) (leb (3 * length l) room) e))
     go false e = (omega arith, omega arith)
 
-answer-few : (op : Option Operation) (a b : List ℤ) (room : ℕ) → Few (answerBy op a b room)
+answer-few : (op : Option Operation) (a b : List ℤ) (room : ℕ) → Few (joinValues (answerBy op a b room))
 answer-few none a b room = (omega arith, omega arith)
 answer-few (some o) a b room = first-list (passes (verdict a))
   where
-    second-list : (t : Bool) → Few (cond t (madeAnswer (joinedList o a b) room) (SecondRefused (verdict b)))
+    second-list : (t : Bool) → Few (joinValues (cond t (madeAnswer (joinedList o a b) room) (SecondRefused (verdict b))))
     second-list true = made-few (joinedList o a b) room
     second-list false = (place-few b, omega arith)
 
-    first-list : (t : Bool) → Few (cond t (cond (passes (verdict b)) (madeAnswer (joinedList o a b) room) (SecondRefused (verdict b))) (FirstRefused (verdict a)))
+    first-list : (t : Bool) → Few (joinValues (cond t (cond (passes (verdict b)) (madeAnswer (joinedList o a b) room) (SecondRefused (verdict b))) (FirstRefused (verdict a))))
     first-list true = second-list (passes (verdict b))
     first-list false = (place-few a, omega arith)
 
 pub join-few : (op : ℕ) (a b before : List ℤ) (r : Joining) (after : List ℤ) → JoinMade op a b before r after
     → (joinValues r .place ≤ mostVertices) × (joinValues r .count ≤ mostVertices)
-join-few op a b before r after h = subst Few (sym (h .answer)) (answer-few (operation op) a b (length before))
+join-few op a b before r after h = subst (λ q. Few (joinValues q)) (sym (h .answer)) (answer-few (operation op) a b (length before))
+
+-- ---- the section and the split
+
+-- what holds of each outcome holds of the one that the order of refusals comes to
+module _ {A : Type 0} (P : A → Type 0) where
+  either : (t : Bool) (x y : A) → (t ≡ true → P x) → P y → P (cond t x y)
+  either true x y h k = h refl
+  either false x y h k = k
+
+  ordered : (o : Option Axis) (t : Bool) (bad : A) (v : Verdict) (refused : Verdict → A) (next : Axis → A)
+      → P bad → P (refused v) → ((axis : Axis) → P (next axis)) → P (asked o t bad (λ axis. checked v refused (next axis)))
+  ordered none t bad v refused next p q s = p
+  ordered (some axis) t bad v refused next p q s =
+      either t (checked v refused (next axis)) bad (λ e. either (passes v) (next axis) (refused v) (λ f. s axis) q) p
+
+-- a list that fits has few members
+fits-few : (numbers count room : ℕ) → fits numbers count room ≡ true → count ≤ mostVertices
+fits-few numbers count room e = leb-true count mostVertices (and-right (leb numbers room) (leb count mostVertices) e)
+
+module _ (ns : List ℤ) (n : ℕ) (z : ℤ) (f : SFits w16 z) where
+  pub code-back : (before : List ℤ) (r : Sectioned) (after : List ℤ) → SectionPromise ns n (back z) before r after → SectionPromise ns n z before r after
+  code-back before r after h = subst (λ k. SectionPromise ns n k before r after) (toZ-ofZ w16 z f) h
+
+  pub at-back : (low high : List ℤ) (r : Halved) (low′ high′ : List ℤ) → SplitPromise ns n (back z) low high r low′ high′
+      → SplitPromise ns n z low high r low′ high′
+  at-back low high r low′ high′ h = subst (λ p. SplitPromise ns n p low high r low′ high′) (toZ-ofZ w16 z f) h
+
+-- the place and the counts that an outcome says are those of lists that are not too long
+abbrev FewPairs : SectionOutcome → Type 0
+FewPairs o = Few (o .values)
+
+abbrev FewBoth : SplitOutcome → Type 0
+FewBoth o = (o .values .place ≤ mostVertices) × (o .values .lowCount ≤ mostVertices) × (o .values .highCount ≤ mostVertices)
+
+module _ (ns : List ℤ) (n : ℕ) (z : ℤ) where
+  pub section-few : (before : List ℤ) (r : Sectioned) (after : List ℤ) → SectionPromise ns n z before r after
+      → (sectionValues r .place ≤ mostVertices) × (sectionValues r .count ≤ mostVertices)
+  unfolding SectionPromise
+  section-few before r after h =
+      subst FewPairs h
+      (ordered FewPairs (axisOf n) (isCode z) (sectionKept before section.BadRequest 9 0 0) (verdict ns)
+      (λ v. sectionKept before (section.Refused v) (refusalNumber v) 1 (refusalPlace v))
+      (λ axis. sectionOutcome axis z ns before) (omega arith, omega arith) (place-few ns, omega arith) (λ axis. pairs-few (sectionPairs axis z ns)))
+    where
+      pairs-few : (ps : List Pair) → FewPairs (placedPairs ps before)
+      pairs-few ps =
+          either FewPairs (fits (2 * length ps) (length ps) (length before)) _ (sectionKept before section.NoRoom 6 0 0)
+          (λ e. (omega arith, fits-few (2 * length ps) (length ps) (length before) e)) (omega arith, omega arith)
+
+  pub split-few : (low high : List ℤ) (r : Halved) (low′ high′ : List ℤ) → SplitPromise ns n z low high r low′ high′
+      → (splitValues r .place ≤ mostVertices) × (splitValues r .lowCount ≤ mostVertices) × (splitValues r .highCount ≤ mostVertices)
+  unfolding SplitPromise
+  split-few low high r low′ high′ h =
+      subst FewBoth h
+      (ordered FewBoth (axisOf n) (isNumber z) (splitKept low high split.BadRequest 9 0 0) (verdict ns)
+      (λ v. splitKept low high (split.Refused v) (refusalNumber v) 1 (refusalPlace v))
+      (λ axis. splitOutcome axis z ns low high) none-made (place-few ns, omega arith, omega arith) (λ axis. halves-few (lowerList axis z ns) (upperList axis z ns)))
+    where
+      none-made : (0 ≤ mostVertices) × (0 ≤ mostVertices) × (0 ≤ mostVertices)
+      none-made = (omega arith, omega arith, omega arith)
+
+      halves-few : (l u : List Corner) → FewBoth (placedHalves l u low high)
+      halves-few l u =
+          either FewBoth (fits (3 * length l) (length l) (length low)) _ (splitKept low high split.LowNoRoom 6 1 0)
+          (λ e.
+          either FewBoth (fits (3 * length u) (length u) (length high)) _ (splitKept low high split.HighNoRoom 6 2 0)
+          (λ f. (omega arith, fits-few (3 * length l) (length l) (length low) e, fits-few (3 * length u) (length u) (length high) f)) none-made)
+          none-made
 
 -- ---- nearest
 
@@ -246,6 +322,18 @@ box-settled ends before r s after last p q = (p .0 ∙ sym (q .0), p .1 ∙ sym 
 pub join-settled : (op : ℕ) (a b before : List ℤ) (r s : ℕ) (after last : List ℤ) → JoinPacked op a b before r after → JoinPacked op a b before s last
     → (r ≡ s) × (after ≡ last)
 join-settled op a b before r s after last p q = (p .answer ∙ sym (q .answer), p .contents ∙ sym (q .contents))
+
+pub section-settled : (ns : List ℤ) (n : ℕ) (k : ℤ) (before : List ℤ) (r s : ℕ) (after last : List ℤ) → SectionPacked ns n k before r after
+    → SectionPacked ns n k before s last → (r ≡ s) × (after ≡ last)
+section-settled ns n k before r s after last p q =
+    let one = one-section ns n k before (p .made) (q .made) after last (p .allowed) (q .allowed) in
+    (p .answer ∙ ap (λ a. packedValues (sectionValues a)) (one .0) ∙ sym (q .answer), one .1)
+
+pub split-settled : (ns : List ℤ) (n : ℕ) (p : ℤ) (low high : List ℤ) (r s : ℕ) (a b a′ b′ : List ℤ) → SplitPacked ns n p low high r a b
+    → SplitPacked ns n p low high s a′ b′ → (r ≡ s) × (a ≡ a′) × (b ≡ b′)
+split-settled ns n p low high r s a b a′ b′ g h =
+    let one = one-split ns n p low high (g .made) (h .made) a b a′ b′ (g .allowed) (h .allowed) in
+    (g .answer ∙ ap (λ m. packedSplit (splitValues m)) (one .0) ∙ sym (h .answer), one .1, one .2)
 
 pub nearest-settled : (ns : List ℤ) (w : Cell) (r s : ℕ) → NearestPacked ns w r → NearestPacked ns w s → r ≡ s
 nearest-settled ns w r s p q =

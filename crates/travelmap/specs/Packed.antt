@@ -6,6 +6,8 @@
 --   packedPart, PlanePacked           the plane query: where the part starts in bits 32 to 63, its length in bits 0 to 31; 0 where it is empty
 --   threeAxes, packedValues, BoxPacked    the box: the values of its answer, and the contents at exit
 --   JoinPacked                        the join: the values of its answer, and the contents at exit
+--   SectionPacked                     the section: the values of its answer, and the contents at exit
+--   packedSplit, SplitPacked          the split: the values of its answer, the upper half's count as the second; and the contents of both at exit
 --   twosComplement, packedNearest, NearestPacked    nearest: the number in bits 48 to 63, then the 16 bits of each code, focus highest
 --   packedDistance, DistancePacked    the distance to the nearest cell: the values of its answer, and the distance in bits 0 to 31
 use mathlib.Core.Path.{_≡_}
@@ -16,14 +18,17 @@ use lib.Dec.{eqb}
 use lib.IntN.{ℤ, pos, negsuc}
 use lib.ListN.{length}
 use Rattle.meaning.specs.Numbers.{Cell, Corner}
-use Rattle.meaning.specs.Verdicts.{verdict, refusalNumber, refusalPlace}
+use Rattle.meaning.specs.Verdicts.{verdict, passes, refusalNumber, refusalPlace}
 use Rattle.meaning.specs.declared.Verdict.{Verdict}
 use Rattle.lists.specs.Box.{Values, boxValues, boxContents}
-use Rattle.asks.specs.Asks.{passes, cellValues, cellAnswer, cornerAnswer, planeEnds}
+use Rattle.asks.specs.Asks.{cellValues, cellAnswer, cornerAnswer, planeEnds}
 use Rattle.asks.specs.declared.CellAnswer.{CellAnswer}
 use Rattle.asks.specs.declared.CornerAnswer.{CornerAnswer}
 use Rattle.asks.specs.declared.Ends.{Ends}
 use Rattle.joins.specs.Join.{joinValues, joinAnswer, joinContents}
+use Rattle.cuts.specs.Answers.{SplitValues, sectionValues, SectionPromise, splitValues, SplitPromise}
+use Rattle.cuts.specs.declared.Sectioned.{Sectioned}
+use Rattle.cuts.specs.declared.Halved.{Halved}
 use Rattle.nearest.specs.Answer.{Outcome, outcome, Answered}
 use Rattle.nearest.specs.declared.Found.{Found}
 
@@ -73,6 +78,21 @@ BoxPacked ends before r after = (r ≡ packedValues (boxValues ends (length befo
 pub record JoinPacked (op : ℕ) (a b before : List ℤ) (r : ℕ) (after : List ℤ) : Type 0 where
   pub answer : r ≡ packedValues (joinValues (joinAnswer op a b (length before)))
   pub contents : after ≡ joinContents op a b before
+
+-- an answer that the promise of section allows is packed so; section allows one alone, with one list at exit
+pub record SectionPacked (ns : List ℤ) (n : ℕ) (k : ℤ) (before : List ℤ) (r : ℕ) (after : List ℤ) : Type 0 where
+  pub made : Sectioned
+  pub allowed : SectionPromise ns n k before made after
+  pub answer : r ≡ packedValues (sectionValues made)
+
+abbrev pub packedSplit : SplitValues → ℕ
+packedSplit v = packed (v .number) (v .operand) (v .place) (v .highCount) (v .lowCount)
+
+-- the same of split, with two lists at exit
+pub record SplitPacked (ns : List ℤ) (n : ℕ) (p : ℤ) (low high : List ℤ) (r : ℕ) (low′ high′ : List ℤ) : Type 0 where
+  pub made : Halved
+  pub allowed : SplitPromise ns n p low high made low′ high′
+  pub answer : r ≡ packedSplit (splitValues made)
 
 -- the 16 bits of a signed number
 abbrev pub twosComplement : ℤ → ℕ

@@ -1,5 +1,5 @@
 // The functions that C and Rust call, on slices of numbers and numbers. Each answers one number that packs document 01's values. It relies on
-// `lists`, `asks`, `joins` and `nearest` for the answers, and only packs them. include/travelmap.h declares the same functions for C.
+// `lists`, `asks`, `joins`, `cuts` and `nearest` for the answers, and only packs them. include/travelmap.h declares the same functions for C.
 ghost use mathlib.Core.Path.{_≡_};
 ghost use Prim.Native.Nat.{_≤_};
 ghost use Rattle.meaning.specs.Numbers.{cell, corner};
@@ -8,9 +8,12 @@ ghost use Rattle.meaning.specs.Verdicts.{refusalNumber, refusalPlace};
 ghost use Rattle.lists.specs.Box.{valuesOf};
 ghost use Rattle.asks.specs.Asks.{cellValues};
 ghost use Rattle.joins.specs.Join.{joinValues};
+ghost use Rattle.cuts.specs.Answers.{sectionValues, splitValues};
 ghost use Rattle.nearest.specs.Answer.{outcome};
-ghost use Rattle.travelmap.specs.Packed.{packed, packedRefusal, packedVerdict, packedCell, packedValues, threeAxes, CheckPacked, CellPacked, CornerPacked, PlanePacked, BoxPacked, JoinPacked, twosComplement, packedNearest, packedDistance, NearestPacked, DistancePacked};
+ghost use Rattle.travelmap.specs.Packed.{packed, packedRefusal, packedVerdict, packedCell, packedValues, threeAxes, CheckPacked, CellPacked, CornerPacked, PlanePacked, BoxPacked, JoinPacked, SectionPacked, packedSplit, SplitPacked, twosComplement, packedNearest, packedDistance, NearestPacked, DistancePacked};
 use asks::CellAnswer;
+use cuts::Halved;
+use cuts::Sectioned;
 use joins::Joining;
 use lists::Boxed;
 use meaning::Verdict;
@@ -42,6 +45,11 @@ const BAD_NUMBER: u8 = 9;
 const ONE_LIST: u8 = 1;
 
 const SECOND_LIST: u8 = 2;
+
+// The operand that a split without room names: the half that does not fit.
+const LOWER_HALF: u8 = 1;
+
+const UPPER_HALF: u8 = 2;
 
 // What the cell query answers for yes.
 const YES: u64 = 1;
@@ -149,6 +157,33 @@ fn pack_join(answer: Joining) -> u64
     }
 }
 
+// The answer of a section.
+fn pack_section(answer: Sectioned) -> u64
+    requires { ⌜ (sectionValues answer .place ≤ mostVertices) × (sectionValues answer .count ≤ mostVertices) ⌝ }
+    ensures { λ r. ⌜ r ≡ packedValues (sectionValues answer) ⌝ }
+{
+    match answer {
+        Sectioned::Done(count) => pack(DONE, 0, 0, 0, count as u16),
+        Sectioned::BadRequest => pack(BAD_NUMBER, 0, 0, 0, 0),
+        Sectioned::Refused(verdict) => pack_refusal(verdict, ONE_LIST),
+        Sectioned::NoRoom => pack(NO_ROOM, 0, 0, 0, 0),
+    }
+}
+
+// The answer of a split.
+fn pack_split(answer: Halved) -> u64
+    requires { ⌜ (splitValues answer .place ≤ mostVertices) × (splitValues answer .lowCount ≤ mostVertices) × (splitValues answer .highCount ≤ mostVertices) ⌝ }
+    ensures { λ r. ⌜ r ≡ packedSplit (splitValues answer) ⌝ }
+{
+    match answer {
+        Halved::Done(lower, upper) => pack(DONE, 0, 0, upper as u16, lower as u16),
+        Halved::BadRequest => pack(BAD_NUMBER, 0, 0, 0, 0),
+        Halved::Refused(verdict) => pack_refusal(verdict, ONE_LIST),
+        Halved::LowNoRoom => pack(NO_ROOM, LOWER_HALF, 0, 0, 0),
+        Halved::HighNoRoom => pack(NO_ROOM, UPPER_HALF, 0, 0, 0),
+    }
+}
+
 // A number's 16 bits in two's complement.
 fn bits_of(number: i16) -> u16
     ensures { λ r. ⌜ r ≡ twosComplement number ⌝ }
@@ -249,6 +284,28 @@ pub extern "C" fn travelmap_join(op: u32, a: &[i16], b: &[i16], out: &mut [i16])
     ensures { λ r. ⌜ JoinPacked op (now (a .entry)) (now (b .entry)) (now (out .entry)) r (now (out .exit)) ⌝ }
 {
     pack_join(joins::join(op, a, b, out))
+}
+
+// The permitted squares at a code of axis 0 focus, 1 first shift or 2 second shift, as pairs.
+#[no_mangle]
+pub extern "C" fn travelmap_section(list: &[i16], axis: u32, code: i16, out: &mut [i16]) -> u64
+    ensures { λ r. ⌜ SectionPacked (now (list .entry)) axis code (now (out .entry)) r (now (out .exit)) ⌝ }
+{
+    pack_section(cuts::section(list, axis, code, out))
+}
+
+// Splits a map at a number of axis 0 focus, 1 first shift or 2 second shift: the cells below it, and the others.
+#[no_mangle]
+pub extern "C" fn travelmap_split(
+    list: &[i16],
+    axis: u32,
+    at: i16,
+    low: &mut [i16],
+    high: &mut [i16],
+) -> u64
+    ensures { λ r. ⌜ SplitPacked (now (list .entry)) axis at (now (low .entry)) (now (high .entry)) r (now (low .exit)) (now (high .exit)) ⌝ }
+{
+    pack_split(cuts::split(list, axis, at, low, high))
 }
 
 // The permitted cell nearest to a wish.

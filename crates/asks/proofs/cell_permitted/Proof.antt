@@ -4,7 +4,7 @@ use mathlib.Core.Bool.{true, false}
 use borrow.Author.Tests.{not-true, not-false}
 use Rattle.meaning.specs.Numbers.{cell}
 use Rattle.meaning.specs.Lists.{vertices, permitted}
-use Rattle.asks.specs.Asks.{passes}
+use Rattle.meaning.specs.Verdicts.{passes}
 use Rattle.asks.proofs.Answers.{cell-refused, cell-said}
 use Rattle.asks.proofs.Passes.{crossing-back}
 use borrow.Author.Needs.{needs}

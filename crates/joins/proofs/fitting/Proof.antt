@@ -3,15 +3,11 @@ use Rattle.meaning.specs.Lists.{mostVertices}
 use borrow.Author.Needs.{needs}
 use Rattle.joins.proofs.fitting.Statement.{statement}
 use Rattle.joins.proofs.fitting.Tie as tie
-use Rattle.joins.proofs.fitting.Reads as reads
-use Rattle.joins.proofs.fitting.Lts as lts
 
--- src/lib.rt:56:1
 returns : tie.Need-returns
 unfolding mostVertices
 returns c = omega arith
 
--- src/lib.rt:56:1
 returns-2 : tie.Need-returns-2
 unfolding mostVertices
 returns-2 c = omega arith

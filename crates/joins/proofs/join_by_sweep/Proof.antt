@@ -7,86 +7,71 @@ use Rattle.joins.proofs.Whole.{read-room, triple-room, whole-room}
 use borrow.Author.Needs.{needs}
 use Rattle.joins.proofs.join_by_sweep.Statement.{statement}
 use Rattle.joins.proofs.join_by_sweep.Tie as tie
-use Rattle.joins.proofs.join_by_sweep.Reads as reads
-use Rattle.joins.proofs.join_by_sweep.Lts as lts
-use Rattle.joins.proofs.fitting.Reads as fitting-reads
-use Rattle.joins.proofs.join_in.Reads as join-in-reads
 
--- src/lib.rt:99:9
 fitting-requires : tie.Need-fitting-requires
 fitting-requires c κs = search needs
 
--- src/lib.rt:100:34
 slice-aggregate-join-in : tie.Need-slice-aggregate-join-in
 slice-aggregate-join-in c = search needs
 
--- src/lib.rt:100:43
 slice-aggregate-join-in-2 : tie.Need-slice-aggregate-join-in-2
 slice-aggregate-join-in-2 c = search needs
 
--- src/lib.rt:100:52
 slice-aggregate-join-in-3 : tie.Need-slice-aggregate-join-in-3
 slice-aggregate-join-in-3 c = search needs
 
--- src/lib.rt:100:61
 slice-aggregate-join-in-4 : tie.Need-slice-aggregate-join-in-4
 slice-aggregate-join-in-4 c = search needs
 
--- src/lib.rt:100:70
 slice-aggregate-join-in-5 : tie.Need-slice-aggregate-join-in-5
 slice-aggregate-join-in-5 c = search needs
 
--- src/lib.rt:100:79
 slice-aggregate-join-in-6 : tie.Need-slice-aggregate-join-in-6
 slice-aggregate-join-in-6 c = search needs
 
--- src/lib.rt:100:88
 slice-aggregate-join-in-7 : tie.Need-slice-aggregate-join-in-7
 slice-aggregate-join-in-7 c = search needs
 
--- src/lib.rt:100:97
 slice-aggregate-join-in-8 : tie.Need-slice-aggregate-join-in-8
 slice-aggregate-join-in-8 c = search needs
 
--- src/lib.rt:100:106
 slice-aggregate-join-in-9 : tie.Need-slice-aggregate-join-in-9
 slice-aggregate-join-in-9 c = search needs
 
--- src/lib.rt:100:115
 slice-aggregate-join-in-10 : tie.Need-slice-aggregate-join-in-10
 slice-aggregate-join-in-10 c = search needs
 
--- src/lib.rt:100:124
 slice-aggregate-join-in-11 : tie.Need-slice-aggregate-join-in-11
 slice-aggregate-join-in-11 c = search needs
 
--- src/lib.rt:100:133
 slice-aggregate-join-in-12 : tie.Need-slice-aggregate-join-in-12
 slice-aggregate-join-in-12 c = search needs
 
--- src/lib.rt:100:5
 join-in-requires : tie.Need-join-in-requires
 unfolding mostVertices
 join-in-requires c κs =
-    let p = c .before .before .before .before .before .before .before .before .before .before .before .before .before .before .pre in
-    let e = c .before .before .before .before .before .before .before .before .before .before .before .before .before .fitting .ensures in (
+    let at-fitting = c .before .before .before .before .before .before .before .before .before .before .before .before .before in
+    let start = at-fitting .before in
+    let p = start .pre in
+    let e = at-fitting .fitting .ensures in (
       p,
       (
-        record { is-ka = refl; is-kb = refl; is-kr = refl; is-sa = refl; is-sb = refl; is-sc = refl; is-sn = refl; is-ta = refl; is-tb = refl; is-tc = refl; is-tn = refl; is-room = refl },
-        ((read-room _ (p .0), read-room _ (p .1)), (omega (arith, e), triple-room (c .before .before .before .before .before .before .before .before .before .before .before .before .before .fitting .result) (length (c .before .before .before .before .before .before .before .before .before .before .before .before .before .before .args .out .now)) (omega (arith, e)))),
+        record
+            { is-ka = refl; is-kb = refl; is-kr = refl; is-sa = refl; is-sb = refl; is-sc = refl; is-sn = refl; is-ta = refl; is-tb = refl; is-tc = refl; is-tn = refl; is-room = refl },
+        ((read-room _ (p .0), read-room _ (p .1)), (omega (arith, e), triple-room (at-fitting .fitting .result) (length (start .args .out .now)) (omega (arith, e)))),
       ),
     )
 
--- src/lib.rt:83:1
 same-length : tie.Need-same-length
 same-length c = search needs
 
--- src/lib.rt:83:1
 returns : tie.Need-returns
 returns c o is =
-    let s = c .before .before .before .before .before .before .before .before .before .before .before .before .before .before .before .before .before .before .before .before .before .before .before .before .before .before .before .before in
-    let r = c .before .before .before .before .before .before .before .before .before .before .before .before .before .join-in .ensures o is in
-    let w = whole-room (joinedList o (s .args .a .now) (s .args .b .now)) (s .args .out .now) (c .before .before .before .before .before .before .before .before .before .before .before .before .before .before .before .before .before .before .before .before .before .before .before .before .before .before .before .fitting .result) (c .before .before .before .before .before .before .before .before .before .before .before .before .before .before .before .before .before .before .before .before .before .before .before .before .before .before .before .fitting .ensures) in
+    let at-join-in = c .before .before .before .before .before .before .before .before .before .before .before .before .before in
+    let at-fitting = at-join-in .before .before .before .before .before .before .before .before .before .before .before .before .before .before in
+    let s = at-fitting .before in
+    let r = at-join-in .join-in .ensures o is in
+    let w = whole-room (joinedList o (s .args .a .now) (s .args .b .now)) (s .args .out .now) (at-fitting .fitting .result) (at-fitting .fitting .ensures) in
     (r .0 ∙ w .0, r .1 ∙ w .1)
 
 pub join-by-sweep-spec : {M : Type 1} → statement M

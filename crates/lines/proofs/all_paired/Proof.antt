@@ -9,8 +9,6 @@ use Rattle.lines.proofs.Parity.{Evenly, paired-more, paired-all}
 use borrow.Author.Needs.{needs}
 use Rattle.lines.proofs.all_paired.Statement.{statement}
 use Rattle.lines.proofs.all_paired.Tie as tie
-use Rattle.lines.proofs.all_paired.Reads as reads
-use Rattle.lines.proofs.all_paired.Lts as lts
 
 abbrev Inv-loop : tie.InvT-loop
 Inv-loop keys n i₀ i = (n ≡ length keys) × (i ≤ length keys) × Evenly keys i
@@ -18,53 +16,41 @@ Inv-loop keys n i₀ i = (n ≡ length keys) × (i ≤ length keys) × Evenly ke
 abbrev μ-loop : tie.MeasureT-loop
 μ-loop keys n i₀ i = length keys - i
 
--- src/lib.rt:212:5
 loop-holds : tie.Need-loop-holds Inv-loop μ-loop
 loop-holds c = (refl, search needs, λ key. refl)
 
--- src/lib.rt:212:11
 add-loop : tie.Need-add-loop Inv-loop μ-loop
 add-loop c = search needs
 
--- src/lib.rt:213:12
 mul-if1 : tie.Need-mul-if1 Inv-loop μ-loop
 mul-if1 c = search needs
 
--- src/lib.rt:213:12
 shared-slice-read-if1 : tie.Need-shared-slice-read-if1 Inv-loop μ-loop
 shared-slice-read-if1 c = search needs
 
--- src/lib.rt:213:28
 add-if1 : tie.Need-add-if1 Inv-loop μ-loop
 add-if1 c = search needs
 
--- src/lib.rt:213:23
 mul-if1-2 : tie.Need-mul-if1-2 Inv-loop μ-loop
 mul-if1-2 c = search needs
 
--- src/lib.rt:213:23
 shared-slice-read-if1-2 : tie.Need-shared-slice-read-if1-2 Inv-loop μ-loop
 shared-slice-read-if1-2 c = search needs
 
--- src/lib.rt:214:13
 returns : tie.Need-returns Inv-loop μ-loop
 returns c h = absurd (false≢true h)
 
--- src/lib.rt:216:9
 add-i : tie.Need-add-i Inv-loop μ-loop
 add-i c = search needs
 
--- src/lib.rt:212:5
 loop-less : tie.Need-loop-less Inv-loop μ-loop
 loop-less c = search needs
 
--- src/lib.rt:212:5
 loop-again : tie.Need-loop-again Inv-loop μ-loop
 loop-again c =
     let w = c .before .before .before .before .loop .inv in
     (w .0, omega arith, paired-more (c .before .before .before .before .before .args .keys .now) (c .before .before .before .before .loop .i) (omega arith) (c .if1 .left) (w .2))
 
--- src/lib.rt:207:1
 returns-2 : tie.Need-returns-2 Inv-loop μ-loop
 returns-2 c h =
     let w = c .before .loop .inv in

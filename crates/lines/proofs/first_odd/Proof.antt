@@ -6,44 +6,30 @@ use Rattle.lines.proofs.First.{first-none}
 use borrow.Author.Needs.{needs}
 use Rattle.lines.proofs.first_odd.Statement.{statement}
 use Rattle.lines.proofs.first_odd.Tie as tie
-use Rattle.lines.proofs.first_odd.Reads as reads
-use Rattle.lines.proofs.first_odd.Lts as lts
-use Rattle.lines.proofs.all_paired.Reads as all-paired-reads
-use Rattle.lines.proofs.first_by_counting.Reads as first-by-counting-reads
-use Rattle.lines.proofs.first_by_large.Reads as first-by-large-reads
-use Rattle.lines.proofs.first_by_small.Reads as first-by-small-reads
 
--- src/lib.rt:225:8
 all-paired-requires : tie.Need-all-paired-requires
 all-paired-requires c κs = search needs
 
--- src/lib.rt:226:9
 returns : tie.Need-returns
 returns c =
     let l = c .before .before .before .args .keys .now in
     sym (first-none (occursOddly l) (length l) (λ k h. c .before .all-paired .ensures (c .if1 .taken) (getD l k 0)))
 
--- src/lib.rt:229:9
 first-by-counting-requires : tie.Need-first-by-counting-requires
 first-by-counting-requires c κs = search needs
 
--- src/lib.rt:229:9
 returns-2 : tie.Need-returns-2
 returns-2 c = search needs
 
--- src/lib.rt:232:9
 first-by-small-requires : tie.Need-first-by-small-requires
 first-by-small-requires c κs = search needs
 
--- src/lib.rt:232:9
 returns-3 : tie.Need-returns-3
 returns-3 c = search needs
 
--- src/lib.rt:234:5
 first-by-large-requires : tie.Need-first-by-large-requires
 first-by-large-requires c κs = search needs
 
--- src/lib.rt:222:1
 returns-4 : tie.Need-returns-4
 returns-4 c = search needs
 

@@ -28,17 +28,17 @@ room c = omega (arith, c .fill .kept .1 .1 .1 .0, c .before .before .before .pre
 fill-requires : tie.Need-fill-requires
 fill-requires c κs = search needs
 
-slice-reshare-prefix-first-odd-key : tie.Need-slice-reshare-prefix-first-odd-key
-slice-reshare-prefix-first-odd-key c = omega (arith, room (c .before .before), length-vertices (numbers (c .before .before .before .before .before)))
+slice-reshare-prefix-first-odd : tie.Need-slice-reshare-prefix-first-odd
+slice-reshare-prefix-first-odd c = omega (arith, room (c .before .before), length-vertices (numbers (c .before .before .before .before .before)))
 
-slice-aggregate-first-odd-key : tie.Need-slice-aggregate-first-odd-key
-slice-aggregate-first-odd-key c =
+slice-aggregate-first-odd : tie.Need-slice-aggregate-first-odd
+slice-aggregate-first-odd c =
     let k = c .before .before .before in
     let l = numbers (k .before .before .before) in
     sym (length-take-le (length l / 3) (keys k) (omega (arith, room k, length-vertices l)))
 
-first-odd-key-requires : tie.Need-first-odd-key-requires
-first-odd-key-requires c κs = search needs
+first-odd-requires : tie.Need-first-odd-requires
+first-odd-requires c κs = search needs
 
 same-length : tie.Need-same-length
 same-length c = search needs
@@ -48,7 +48,7 @@ returns c axis offsets =
     let k = c .before .before .before .before in
     let start = k .before .before .before in
     let l = numbers start in
-    c .first-odd-key .ensures ∙
+    c .first-odd .ensures ∙
     ap (λ n. firstOdd (take n (keys k))) (sym (length-vertices l)) ∙
     ap firstOdd (keys-filled axis l (start .args .a) (start .args .b) offsets (keys k) (room k) (k .fill .ensures)) ∙
     first-odd-line axis l (start .pre .0)
@@ -58,8 +58,8 @@ first-odd-pair-spec =
     tie.close
     (tie.spec
     fill-requires
-    slice-reshare-prefix-first-odd-key
-    slice-aggregate-first-odd-key
-    first-odd-key-requires
+    slice-reshare-prefix-first-odd
+    slice-aggregate-first-odd
+    first-odd-requires
     same-length
     returns)

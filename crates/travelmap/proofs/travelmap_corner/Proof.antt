@@ -21,7 +21,7 @@ mul-cells : tie.Need-mul-cells
 mul-cells c = omega (arith, corner-eight _ _ _ (c .before .corner-report .ensures))
 
 cast-cells-2 : tie.Need-cast-cells-2
-cast-cells-2 c = search needs
+cast-cells-2 c = omega (arith, corner-eight _ _ _ (c .before .before .corner-report .ensures))
 
 add-cells : tie.Need-add-cells
 add-cells c = omega (arith, corner-eight _ _ _ (c .before .before .corner-report .ensures))

@@ -1,4 +1,5 @@
 -- `values::near` meets its contract: below the stretch its first code, above it its last, else the wish itself.
+use native.Mathlib.Omega.{arith}
 use borrow.Author.Needs.{needs}
 use Rattle.nearest.proofs.Costs.{near-last}
 use Rattle.nearest.proofs.values.near.Statement.{statement}
@@ -14,7 +15,7 @@ sub-result c = search needs
 
 -- src/values.rt:34:9
 returns-2 : tie.Need-returns-2
-returns-2 c = near-last _ _ _ (c .before .before .pre) (c .if2 .taken)
+returns-2 c = near-last _ _ _ _ (c .before .before .pre) (c .if2 .taken) (omega arith)
 
 -- src/values.rt:26:1
 returns-3 : tie.Need-returns-3

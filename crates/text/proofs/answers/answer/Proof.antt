@@ -16,32 +16,32 @@ use Rattle.text.proofs.answers.answer.Tie as tie
 mul-at : tie.Need-mul-at
 mul-at c = search needs
 
-mul-nearest : tie.Need-mul-nearest
-mul-nearest c = search needs
+mul-nearest-of-map : tie.Need-mul-nearest-of-map
+mul-nearest-of-map c = search needs
 
-shared-slice-copy-out-nearest : tie.Need-shared-slice-copy-out-nearest
-shared-slice-copy-out-nearest c = search needs
+shared-slice-copy-out-nearest-of-map : tie.Need-shared-slice-copy-out-nearest-of-map
+shared-slice-copy-out-nearest-of-map c = search needs
 
-add-nearest : tie.Need-add-nearest
-add-nearest c = search needs
+add-nearest-of-map : tie.Need-add-nearest-of-map
+add-nearest-of-map c = search needs
 
-mul-nearest-2 : tie.Need-mul-nearest-2
-mul-nearest-2 c = search needs
+mul-nearest-of-map-2 : tie.Need-mul-nearest-of-map-2
+mul-nearest-of-map-2 c = search needs
 
-shared-slice-copy-out-nearest-2 : tie.Need-shared-slice-copy-out-nearest-2
-shared-slice-copy-out-nearest-2 c = search needs
+shared-slice-copy-out-nearest-of-map-2 : tie.Need-shared-slice-copy-out-nearest-of-map-2
+shared-slice-copy-out-nearest-of-map-2 c = search needs
 
-add-nearest-2 : tie.Need-add-nearest-2
-add-nearest-2 c = search needs
+add-nearest-of-map-2 : tie.Need-add-nearest-of-map-2
+add-nearest-of-map-2 c = search needs
 
-mul-nearest-3 : tie.Need-mul-nearest-3
-mul-nearest-3 c = search needs
+mul-nearest-of-map-3 : tie.Need-mul-nearest-of-map-3
+mul-nearest-of-map-3 c = search needs
 
-shared-slice-copy-out-nearest-3 : tie.Need-shared-slice-copy-out-nearest-3
-shared-slice-copy-out-nearest-3 c = search needs
+shared-slice-copy-out-nearest-of-map-3 : tie.Need-shared-slice-copy-out-nearest-of-map-3
+shared-slice-copy-out-nearest-of-map-3 c = search needs
 
-nearest-requires : tie.Need-nearest-requires
-nearest-requires c κs = search needs
+nearest-of-map-requires : tie.Need-nearest-of-map-requires
+nearest-of-map-requires c κs = search needs
 
 enum-known-focus : tie.Need-enum-known-focus
 enum-known-focus c = search needs
@@ -62,14 +62,14 @@ empty-line-requires-2 : tie.Need-empty-line-requires-2
 empty-line-requires-2 c κs = search needs
 
 -- what nearest answers of wish i
-said : (c : tie.After-nearest) → let a = c .before .before .before .before .args in Answered (now (a .list)) (wishAt (now (a .wishes)) (a .i)) (c .nearest .result)
+said : (c : tie.After-nearest-of-map) → let a = c .before .before .before .before .args in Answered (now (a .list)) (wishAt (now (a .wishes)) (a .i)) (c .nearest-of-map .result)
 said c =
     let a = c .before .before .before .before .args in
     let at = 3 * a .i in
-    let x = read-back (getD (now (a .wishes)) at (pos 0)) (c .before .before .before .nearest-arg .given) in
-    let y = read-back (getD (now (a .wishes)) (at + 1) (pos 0)) (c .before .before .nearest-arg2 .given) in
-    let z = read-back (getD (now (a .wishes)) (at + 2) (pos 0)) (c .before .nearest-arg3 .given) in
-    subst (λ w. Answered (now (a .list)) w (c .nearest .result)) (λ j. cell (x j) (y j) (z j)) (c .nearest .ensures)
+    let x = read-back (getD (now (a .wishes)) at (pos 0)) (c .before .before .before .nearest-of-map-arg .given) in
+    let y = read-back (getD (now (a .wishes)) (at + 1) (pos 0)) (c .before .before .nearest-of-map-arg2 .given) in
+    let z = read-back (getD (now (a .wishes)) (at + 2) (pos 0)) (c .before .nearest-of-map-arg3 .given) in
+    subst (λ w. Answered (now (a .list)) w (c .nearest-of-map .result)) (λ j. cell (x j) (y j) (z j)) (c .nearest-of-map .ensures)
 
 returns : tie.Need-returns
 returns c =
@@ -91,15 +91,15 @@ answer-spec =
     tie.close
     (tie.spec
     mul-at
-    mul-nearest
-    shared-slice-copy-out-nearest
-    add-nearest
-    mul-nearest-2
-    shared-slice-copy-out-nearest-2
-    add-nearest-2
-    mul-nearest-3
-    shared-slice-copy-out-nearest-3
-    nearest-requires
+    mul-nearest-of-map
+    shared-slice-copy-out-nearest-of-map
+    add-nearest-of-map
+    mul-nearest-of-map-2
+    shared-slice-copy-out-nearest-of-map-2
+    add-nearest-of-map-2
+    mul-nearest-of-map-3
+    shared-slice-copy-out-nearest-of-map-3
+    nearest-of-map-requires
     enum-known-focus
     cell-line-requires
     enum-told

@@ -1,4 +1,5 @@
 -- `frames::digit` meets its contract: each way out is one stretch of the bytes.
+use native.Mathlib.Omega.{arith}
 use borrow.Author.Needs.{needs}
 use Rattle.text.proofs.FrameLaws.{value-under, value-lower, value-between, value-upper, value-over}
 use Rattle.text.proofs.frames.digit.Statement.{statement}
@@ -14,7 +15,7 @@ returns-2 : tie.Need-returns-2
 returns-2 c = value-lower (c .before .before .args .b) (c .before .if1 .left) (c .if2 .taken)
 
 returns-3 : tie.Need-returns-3
-returns-3 c = value-between (c .before .before .before .args .b) (c .before .if2 .left) (c .if3 .taken)
+returns-3 c = value-between (c .before .before .before .args .b) (c .before .if2 .left) (omega arith)
 
 sub-result : tie.Need-sub-result
 sub-result c = search needs

@@ -1,5 +1,6 @@
 -- `frames::signed` meets its contract: the crossing of `codes`, half the range away.
 use mathlib.Core.Path.{_∙_}
+use native.Mathlib.Omega.{arith}
 use borrow.Author.Needs.{needs}
 use mir.Syntax.{w16}
 use mir.ValLaws.{toZ-ofZ}
@@ -7,14 +8,14 @@ use Rattle.text.proofs.FrameLaws.{signed-low, signed-high}
 use Rattle.text.proofs.frames.signed.Statement.{statement}
 use Rattle.text.proofs.frames.signed.Tie as tie
 
+returns : tie.Need-returns
+returns c = toZ-ofZ w16 _ (record { sfits = c .lower .ok }) ∙ c .lower .ensures ∙ signed-low (c .before .before .args .n) (omega arith)
+
 add-lower : tie.Need-add-lower
 add-lower c = search needs
 
 lower-requires : tie.Need-lower-requires
 lower-requires c κs = search needs
-
-returns : tie.Need-returns
-returns c = toZ-ofZ w16 _ (record { sfits = c .lower .ok }) ∙ c .lower .ensures ∙ signed-low _ (c .before .if1 .taken)
 
 lower-requires-2 : tie.Need-lower-requires-2
 lower-requires-2 c κs = search needs

@@ -31,7 +31,7 @@ summed c = sym (c .before .sum .given .1) ∙ c .before .before .before .number-
 
 all : (c : tie.Else2) → let n = c .before .before .before .before .before .before .count .given .0 .0 in
     take (3 * n) (c .before .before .frames-from .last .1 .1 .1 .1 .0) ≡ numbersFrom (now (c .before .before .before .before .before .before .before .before .before .before .args .s)) vertexTag 7 n
-all c = all-read _ _ _ _ _ (c .before .before .frames-from .ensures .0) (c .if2 .left) (c .before .before .frames-from .ensures .1)
+all c = all-read _ _ _ (c .before .before .before .before .before .before .count .given .0 .0) _ (c .before .before .frames-from .ensures .0) (omega arith) (c .before .before .frames-from .ensures .1)
 
 number-at-requires : tie.Need-number-at-requires
 number-at-requires c κs = search needs

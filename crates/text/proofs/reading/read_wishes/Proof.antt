@@ -11,6 +11,29 @@ use Rattle.text.proofs.Order.{wish-none, wish-ill, wish-all, wish-few}
 use Rattle.text.proofs.reading.read_wishes.Statement.{statement}
 use Rattle.text.proofs.reading.read_wishes.Tie as tie
 
+returns : tie.Need-returns
+returns c = (wish-none _ _ (c .if1 .taken), omega arith)
+
+-- how many lines there are
+abbrev due : tie.After-frames-from → ℕ
+due c = (length (now (c .before .before .before .before .before .args .s)) - wishPlace (c .before .before .before .before .before .args .n) + 15 - 1) / 15
+
+-- the first ill formed line of those that can be wishes
+found : (c : tie.After-frames-from) → c .frames-from .result ≡ first (illAt (now (c .before .before .before .before .before .args .s)) wishTag (wishPlace (c .before .before .before .before .before .args .n))) (min (due c) 256)
+found c = c .frames-from .ensures .0 ∙ ap (first _) (c .before .before .lesser .ensures)
+
+are-due : (c : tie.After-frames-from) → due c ≡ wishLines (now (c .before .before .before .before .before .args .s)) (c .before .before .before .before .before .args .n)
+are-due c = omega arith
+
+returns-2 : tie.Need-returns-2
+returns-2 c = (wish-ill _ _ (are-due (c .before .before)) (found (c .before .before)) (omega arith), tt)
+
+returns-3 : tie.Need-returns-3
+returns-3 c = (
+  wish-all _ _ (are-due (c .before .before)) (found (c .before .before)) _ (omega arith) (c .before .before .frames-from .ensures .1),
+  wish-few _ _ (are-due (c .before .before)) (found (c .before .before)) (omega arith),
+)
+
 mul-start : tie.Need-mul-start
 mul-start c = search needs
 
@@ -19,9 +42,6 @@ mul-start-2 c = search needs
 
 add-start : tie.Need-add-start
 add-start c = search needs
-
-returns : tie.Need-returns
-returns c = (wish-none _ _ (c .if1 .taken), omega arith)
 
 sub-due : tie.Need-sub-due
 sub-due c = search needs
@@ -47,28 +67,8 @@ add-t15 c = search needs
 same-length : tie.Need-same-length
 same-length c = search needs
 
--- how many lines there are
-abbrev due : tie.After-frames-from → ℕ
-due c = (length (now (c .before .before .before .before .before .args .s)) - wishPlace (c .before .before .before .before .before .args .n) + 15 - 1) / 15
-
--- the first ill formed line of those that can be wishes
-found : (c : tie.After-frames-from) → c .frames-from .result ≡ first (illAt (now (c .before .before .before .before .before .args .s)) wishTag (wishPlace (c .before .before .before .before .before .args .n))) (min (due c) 256)
-found c = c .frames-from .ensures .0 ∙ ap (first _) (c .before .before .lesser .ensures)
-
-are-due : (c : tie.After-frames-from) → due c ≡ wishLines (now (c .before .before .before .before .before .args .s)) (c .before .before .before .before .before .args .n)
-are-due c = omega arith
-
-returns-2 : tie.Need-returns-2
-returns-2 c = (wish-ill _ _ (are-due (c .before .before)) (found (c .before .before)) (omega arith), tt)
-
 same-length-2 : tie.Need-same-length-2
 same-length-2 c = search needs
-
-returns-3 : tie.Need-returns-3
-returns-3 c = (
-  wish-all _ _ (are-due (c .before .before)) (found (c .before .before)) _ (c .if2 .left) (c .before .before .frames-from .ensures .1),
-  wish-few _ _ (are-due (c .before .before)) (found (c .before .before)) (c .if2 .left),
-)
 
 pub read-wishes-spec : {M : Type 1} → statement M
 read-wishes-spec =

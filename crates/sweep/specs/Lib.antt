@@ -1,0 +1,2 @@
+-- What the sweep's promises cite.
+pub mod Sweep
