@@ -125,8 +125,10 @@ impl Known {
         Known::operand(list, 1)
     }
 
-    /// Judges the list that is this operand of a call.
-    pub fn operand(list: Vec<i16>, operand: u8) -> Known {
+    /// Judges the list that is this operand of a call. It has no spare room, so that a tool that watches memory sees a
+    /// step beyond it.
+    pub fn operand(mut list: Vec<i16>, operand: u8) -> Known {
+        list.shrink_to_fit();
         let verdict = check(&list, operand);
         let vertices = match verdict.number {
             DONE => corners(&list),
