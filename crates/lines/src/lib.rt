@@ -203,28 +203,10 @@ fn first_by_large(keys: &[u32]) -> usize
     first_by_table(keys, &mut table)
 }
 
-// Whether neighbouring keys are equal two by two, so that every key occurs an even number of times.
-fn all_paired(keys: &[u32]) -> bool
-    ensures { λ r. ⌜ (r ≡ true → (key : ℕ) → odd (count (λ k. eqb key k) (now (keys .entry))) ≡ false) ⌝ }
-{
-    let n = keys.len();
-    let mut i = 0;
-    while i + 1 < n {
-        if keys[i] != keys[i + 1] {
-            return false;
-        }
-        i += 2;
-    }
-    i == n
-}
-
 // The first place whose key occurs an odd number of times, or the length where there is none.
 pub fn first_odd(keys: &[u32]) -> usize
     ensures { λ r. ⌜ r ≡ firstOdd (now (keys .entry)) ⌝ }
 {
-    if all_paired(keys) {
-        return keys.len();
-    }
     if keys.len() <= FEW {
         return first_by_counting(keys);
     }

@@ -5,14 +5,16 @@
 --   pairAt-key       the two numbers at an axis's offsets, as one number, are the pair key
 --   keys-filled      a filled working list is the list of pair keys
 --   first-odd-line   the first number that occurs an odd number of times is the first vertex on an odd line of the axis
+--   evenly-more, evenly-all     vertices that lie two by two on lines of the second shift: one pair more; all of them
 --   first-at-start   a vertex on an odd line at place 0
 --   first-of-three   the first vertex on an odd line of any axis is the least of the three
 use mathlib.Core.Path.{_≡_, refl, sym, _∙_, ap, ap₂}
-use mathlib.Core.Bool.{Bool, true, _||_, or-true}
+use mathlib.Core.Bool.{Bool, true, _&&_, _||_, or-true}
 use mathlib.Core.List.{List, [], _∷_, map}
 use Prim.Native.Nat.{ℕ, zero, suc, _+_, _*_, min, _≤_, _<_}
 use native.Mathlib.Omega.{arith}
 use borrow.Author.Count.{below-more}
+use borrow.Author.Tests.{eqb-true}
 use lib.Dec.{eqb}
 use lib.IntN.{ℤ, pos}
 use lib.ListN.{length, getD, take, set, length-map}
@@ -22,11 +24,13 @@ use Rattle.meaning.specs.Counting.{count, odd, first, All}
 use Rattle.meaning.specs.Lists.{vertices, onLine, oddLine}
 use Rattle.meaning.specs.Verdicts.{at, onOddLineAt}
 use Rattle.meaning.proofs.Checked.{is-first}
+use Rattle.meaning.proofs.Integers.{and-left, and-right}
 use Rattle.codes.specs.Keys.{cornerAt, pairKey}
 use Rattle.codes.proofs.Keys.{onLine-pairKey}
 use Rattle.lines.specs.Odd.{occursOddly, firstOdd}
+use Rattle.lines.proofs.Parity.{Evenly, paired-more, paired-all}
 use Rattle.lists.specs.Check.{InRange, pairAt, Filled, Offsets, firstOn}
-use Rattle.lists.proofs.First.{first-facts, first-same, first-or}
+use Rattle.lists.proofs.First.{first-none, first-facts, first-same, first-or}
 use Rattle.lists.proofs.Vertices.{at-vertices, all-by}
 
 -- ---- counting through a map, and by tests that agree on the list
@@ -107,6 +111,32 @@ module _ (axis : Axis) (ns : List ℤ) (r : InRange ns) where
       (λ i h.
       ap odd
       (ap (λ m. count (eqb m) keys) (getD-map (pairKey axis) l i (corner (pos 0) (pos 0) (pos 0)) 0 h) ∙ sym (on-line i h)))
+
+-- ---- neighbours on one line of the second shift
+
+abbrev pub lineKeys : List ℤ → List ℕ
+lineKeys ns = map (pairKey second) (vertices ns)
+
+module _ (ns : List ℤ) where
+  long : length (lineKeys ns) ≡ length (vertices ns)
+  long = length-map (vertices ns) (pairKey second)
+
+  at-key : (i : ℕ) → i < length (vertices ns) → getD (lineKeys ns) i 0 ≡ pairAt ns 0 1 i
+  at-key i h =
+      getD-map (pairKey second) (vertices ns) i (corner (pos 0) (pos 0) (pos 0)) 0 h ∙
+      ap (pairKey second) (at-vertices ns i h) ∙
+      sym (pairAt-key second ns 0 1 i (refl, refl))
+
+  pub evenly-more : (good : Bool) (i x y : ℕ) → i + 1 < length (vertices ns) → x ≡ pairAt ns 0 1 i → y ≡ pairAt ns 0 1 (i + 1) →
+      (good ≡ true → Evenly (lineKeys ns) i) → (good && eqb x y) ≡ true → Evenly (lineKeys ns) (i + 2)
+  evenly-more good i x y h ex ey even t =
+      paired-more (lineKeys ns) i (omega (arith, long))
+      (at-key i (omega arith) ∙ sym ex ∙ eqb-true x y (and-right good (eqb x y) t) ∙ ey ∙ sym (at-key (i + 1) h)) (even (and-left good (eqb x y) t))
+
+  pub evenly-all : InRange ns → (i : ℕ) → i ≡ length (vertices ns) → Evenly (lineKeys ns) i → length (vertices ns) ≡ firstOn second (vertices ns)
+  evenly-all r i e even =
+      let all = paired-all (lineKeys ns) i (e ∙ sym long) even in
+      sym long ∙ first-none (occursOddly (lineKeys ns)) (length (lineKeys ns)) refl (λ k h. all (getD (lineKeys ns) k 0)) ∙ first-odd-line second ns r
 
 -- where a vertex on an odd line of some axis stands at place 0, that is the first
 pub first-at-start : (axis : Axis) (l : List Corner) → 0 ≡ firstOn axis l → 0 ≡ first (onOddLineAt l) (length l)

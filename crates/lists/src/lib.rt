@@ -11,7 +11,7 @@ ghost use Rattle.meaning.specs.Lists.{vertices, numbers, mostVertices};
 ghost use Rattle.meaning.specs.Verdicts.{outsideAt, fallsAt, onOddLineAt, passes};
 ghost use Rattle.codes.specs.Keys.{cornerAt};
 ghost use Rattle.lists.specs.Box.{goodEnd, goodEnds, boxVertices, BoxMade};
-ghost use Rattle.lists.specs.Check.{Checked, AllNumbers, InRange, AllRise, Offsets, Filled, firstOn};
+ghost use Rattle.lists.specs.Check.{Checked, AllNumbers, InRange, AllRise, Offsets, pairAt, Filled, firstOn};
 use codes::HIGHEST;
 use codes::LINE;
 use codes::LOWEST;
@@ -122,6 +122,18 @@ fn first_falling(list: &[i16]) -> usize
     n
 }
 
+// The numbers at offsets a and b of vertex i, as one number.
+fn pair_at(list: &[i16], i: usize, a: usize, b: usize) -> u32
+    requires { ⌜ InRange (now list) ⌝ }
+    requires { ⌜ (a < 3) × (b < 3) ⌝ }
+    requires { ⌜ 3 * i + 2 < length (now list) ⌝ }
+    ensures { λ r. ⌜ r ≡ pairAt (now (list .entry)) a b i ⌝ }
+{
+    let one = codes::steps_at(list, NUMBERS * i + a);
+    let two = codes::steps_at(list, NUMBERS * i + b);
+    one * LINE + two
+}
+
 // Writes, for each vertex, its numbers at offsets a and b as one number.
 fn fill(list: &[i16], a: usize, b: usize, keys: &mut [u32])
     requires { ⌜ InRange (now list) ⌝ }
@@ -132,11 +144,24 @@ fn fill(list: &[i16], a: usize, b: usize, keys: &mut [u32])
     let n = list.len() / NUMBERS;
     let mut i = 0;
     while i < n {
-        let one = codes::steps_at(list, NUMBERS * i + a);
-        let two = codes::steps_at(list, NUMBERS * i + b);
-        keys[i] = one * LINE + two;
+        keys[i] = pair_at(list, i, a, b);
         i += 1;
     }
+}
+
+// Whether the vertices lie two by two on lines of the second shift, so that each such line is even. No early end: several are tested at once.
+fn in_pairs(list: &[i16]) -> bool
+    requires { ⌜ InRange (now list) ⌝ }
+    ensures { λ r. ⌜ (r ≡ true → length (vertices (now (list .entry))) ≡ firstOn Axis.second (vertices (now (list .entry)))) ⌝ }
+{
+    let n = list.len() / NUMBERS;
+    let mut good = true;
+    let mut i = 0;
+    while i + 1 < n {
+        good &= pair_at(list, i, 0, 1) == pair_at(list, i + 1, 0, 1);
+        i += 2;
+    }
+    good & (i == n)
 }
 
 // The lesser of two places.
@@ -159,6 +184,19 @@ fn first_odd_pair(list: &[i16], a: usize, b: usize, keys: &mut [u32]) -> usize
     lines::first_odd(&keys[..n])
 }
 
+// The first vertex on an odd line of the second shift, or the count of vertices; keys is room to work in.
+fn first_along_second(list: &[i16], keys: &mut [u32]) -> usize
+    requires { ⌜ InRange (now list) ⌝ }
+    requires { ⌜ length (vertices (now list)) ≤ length (now keys) ⌝ }
+    requires { ⌜ length (vertices (now list)) ≤ mostVertices ⌝ }
+    ensures { λ r. ⌜ r ≡ firstOn Axis.second (vertices (now (list .entry))) ⌝ }
+{
+    if in_pairs(list) {
+        return list.len() / NUMBERS;
+    }
+    first_odd_pair(list, 0, 1, keys)
+}
+
 // The first vertex on an odd line of any axis, or the count of vertices; keys is room to work in.
 fn first_with_room(list: &[i16], keys: &mut [u32]) -> usize
     requires { ⌜ InRange (now list) ⌝ }
@@ -166,7 +204,7 @@ fn first_with_room(list: &[i16], keys: &mut [u32]) -> usize
     requires { ⌜ length (vertices (now list)) ≤ mostVertices ⌝ }
     ensures { λ r. ⌜ r ≡ first (onOddLineAt (vertices (now (list .entry)))) (length (vertices (now (list .entry)))) ⌝ }
 {
-    let along_second = first_odd_pair(list, 0, 1, keys);
+    let along_second = first_along_second(list, keys);
     if along_second == 0 {
         return 0;
     }

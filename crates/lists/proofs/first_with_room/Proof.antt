@@ -14,18 +14,15 @@ use Rattle.lists.proofs.first_with_room.Tie as tie
 abbrev corners : tie.Start → List Corner
 corners c = vertices (now (c .args .list))
 
--- the place on each axis
-along-second : (c : tie.After-first-odd-pair) → c .first-odd-pair .result ≡ firstOn second (corners (c .before .before .before))
-along-second c = c .first-odd-pair .ensures second (refl, refl)
+-- the place on the other two axes
+along-focus : (c : tie.After-first-odd-pair) → c .first-odd-pair .result ≡ firstOn focus (corners (c .before .before .before .before .before .before .before .before))
+along-focus c = c .first-odd-pair .ensures focus (refl, refl)
 
-along-focus : (c : tie.After-first-odd-pair2) → c .first-odd-pair2 .result ≡ firstOn focus (corners (c .before .before .before .before .before .before .before .before))
-along-focus c = c .first-odd-pair2 .ensures focus (refl, refl)
+along-first : (c : tie.After-first-odd-pair2) → c .first-odd-pair2 .result ≡ firstOn first (corners (c .before .before .before .before .before .before .before .before .before .before .before .before .before))
+along-first c = c .first-odd-pair2 .ensures first (refl, refl)
 
-along-first : (c : tie.After-first-odd-pair3) → c .first-odd-pair3 .result ≡ firstOn first (corners (c .before .before .before .before .before .before .before .before .before .before .before .before .before))
-along-first c = c .first-odd-pair3 .ensures first (refl, refl)
-
-first-odd-pair-requires : tie.Need-first-odd-pair-requires
-first-odd-pair-requires c κs = search needs
+first-along-second-requires : tie.Need-first-along-second-requires
+first-along-second-requires c κs = search needs
 
 same-length : tie.Need-same-length
 same-length c = search needs
@@ -33,10 +30,10 @@ same-length c = search needs
 returns : tie.Need-returns
 returns c =
     let k = c .before .before .before in
-    first-at-start second (corners (k .before .before .before)) (sym (c .if1 .taken) ∙ along-second k)
+    first-at-start second (corners (k .before .before .before)) (sym (c .if1 .taken) ∙ k .first-along-second .ensures)
 
-first-odd-pair-requires-2 : tie.Need-first-odd-pair-requires-2
-first-odd-pair-requires-2 c κs = search needs
+first-odd-pair-requires : tie.Need-first-odd-pair-requires
+first-odd-pair-requires c κs = search needs
 
 same-length-2 : tie.Need-same-length-2
 same-length-2 c = search needs
@@ -46,8 +43,8 @@ returns-2 c =
     let k = c .before .before .before in
     first-at-start focus (corners (k .before .before .before .before .before .before .before .before)) (sym (c .if2 .taken) ∙ along-focus k)
 
-first-odd-pair-requires-3 : tie.Need-first-odd-pair-requires-3
-first-odd-pair-requires-3 c κs = search needs
+first-odd-pair-requires-2 : tie.Need-first-odd-pair-requires-2
+first-odd-pair-requires-2 c κs = search needs
 
 lesser-requires : tie.Need-lesser-requires
 lesser-requires c κs = search needs
@@ -64,21 +61,21 @@ returns-3 c =
     let two = three .before .before .before .before .before in
     let one = two .before .before .before .before .before in
     c .lesser2 .ensures ∙
-    ap (min (two .first-odd-pair2 .result)) (c .before .lesser .ensures) ∙
-    first-of-three (corners (one .before .before .before)) (two .first-odd-pair2 .result) (three .first-odd-pair3 .result) (one .first-odd-pair .result)
-    (along-focus two) (along-first three) (along-second one)
+    ap (min (two .first-odd-pair .result)) (c .before .lesser .ensures) ∙
+    first-of-three (corners (one .before .before .before)) (two .first-odd-pair .result) (three .first-odd-pair2 .result) (one .first-along-second .result)
+    (along-focus two) (along-first three) (one .first-along-second .ensures)
 
 pub first-with-room-spec : {M : Type 1} → statement M
 first-with-room-spec =
     tie.close
     (tie.spec
-    first-odd-pair-requires
+    first-along-second-requires
     same-length
     returns
-    first-odd-pair-requires-2
+    first-odd-pair-requires
     same-length-2
     returns-2
-    first-odd-pair-requires-3
+    first-odd-pair-requires-2
     lesser-requires
     lesser-requires-2
     same-length-3
