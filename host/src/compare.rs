@@ -184,7 +184,7 @@ pub fn answers(due: u64, given: u64) -> String {
 }
 
 /// Makes so many calls in parts, on all processors; the inputs do not depend on how many there are.
-fn in_parts(compare: fn(&mut Run), calls: u64) -> Run {
+pub fn in_parts(compare: fn(&mut Run), calls: u64) -> Run {
     let next = AtomicU64::new(0);
     let whole = Mutex::new(Run::new(SEED, calls));
     let work = || loop {

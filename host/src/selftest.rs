@@ -12,6 +12,8 @@ use crate::functions::*;
 use crate::judge::Known;
 use crate::{plain, rng::Rng};
 use std::cell::RefCell;
+use std::collections::BTreeSet;
+use std::sync::Mutex;
 
 /// Calls of a wrong library; it must be reported within them.
 const CALLS: u64 = 6_000;
@@ -107,6 +109,40 @@ fn honest(test: &mut Test) {
     });
 }
 
+/// A comparison in parts makes all calls, with other inputs in each part, and loses no difference.
+fn parts(test: &mut Test) {
+    let honest = |run: &mut Run| check::compare(check::judge, run);
+    let run = compare::in_parts(honest, CALLS + 1);
+    let all = run.calls == CALLS + 1 && run.wrong == 0;
+    test.holds(
+        "all calls in parts",
+        all && run.not_met(check::NUMBERS).is_empty(),
+    );
+    static ASKED: Mutex<BTreeSet<u64>> = Mutex::new(BTreeSet::new());
+    let run = compare::in_parts(
+        |run| {
+            let first = run.rng.bits();
+            let known = ASKED.lock().map_or(true, |mut asked| !asked.insert(first));
+            run.count(0, !known, || "the same inputs for two parts".into());
+        },
+        0,
+    );
+    test.holds("other inputs in each part", run.wrong == 0 && run.calls > 1);
+    let wrong = |run: &mut Run| {
+        let mut last = 0;
+        while run.goes_on() {
+            last = run.rng.bits();
+            run.count(0, true, || "".into());
+        }
+        run.count(0, last % 2 == 0, || "the last call of some parts".into());
+    };
+    let run = compare::in_parts(wrong, CALLS);
+    test.holds(
+        "a difference in some parts",
+        run.wrong > 0 && !run.shown.is_empty(),
+    );
+}
+
 /// Every join of small sets of cells is made, and right joins pass.
 fn every_join(test: &mut Test) {
     for (name, call) in JOINS {
@@ -143,6 +179,7 @@ pub fn selftest() -> bool {
     honest(&mut test);
     every_mask(&mut test);
     every_join(&mut test);
+    parts(&mut test);
     liars::liars(&mut test);
     texts::texts(&mut test);
     tables::tables(&mut test);
