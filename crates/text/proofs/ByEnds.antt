@@ -5,6 +5,7 @@
 --   Begins                   the place where the line begins that has so many lines before it
 --   Frame                    a line that is exactly 0, its tag's digit, so many digits and its 0A
 --   ends-one, begins-one     a line has one end, and begins at one place
+--   all-four                 four digits that make a number are digits
 --   one-frame, frame-one     a frame of one number by fixed widths is such a line, and back
 --   three-frame, frame-three the same of three numbers
 --   Well, Bad                the line with so many lines before it is such a frame; it is none
@@ -82,7 +83,7 @@ four-in-a-row P a k p₀ p₁ p₂ p₃ h l = go (k - a) (omega arith)
     go (suc (suc (suc zero))) e = let same : a + 3 ≡ k = omega arith in subst P same p₃
     go (suc (suc (suc (suc j)))) e = absurd (omega arith)
 
-all-four : (a b c d m : ℕ) → fourOf a b c d ≡ Number m → (a < 16) × (b < 16) × (c < 16) × (d < 16)
+pub all-four : (a b c d m : ℕ) → fourOf a b c d ≡ Number m → (a < 16) × (b < 16) × (c < 16) × (d < 16)
 all-four a b c d m = by (ltb a 16 && (ltb b 16 && (ltb c 16 && ltb d 16))) refl
   where
     by : (t : Bool) → (ltb a 16 && (ltb b 16 && (ltb c 16 && ltb d 16))) ≡ t → cond t (Number (((a * 16 + b) * 16 + c) * 16 + d)) Ill ≡ Number m

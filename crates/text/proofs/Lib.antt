@@ -4,6 +4,7 @@ pub mod Runs
 pub mod Totals
 pub mod Order
 pub mod ByEnds
+pub mod Places
 pub mod Lines
 pub mod Filling
 pub mod Settled

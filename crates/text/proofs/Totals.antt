@@ -5,20 +5,28 @@
 --   Congruent    two integers that are equal modulo 65,536: equal when each is raised by some times 65,536
 --   closing-sum  the closing sum is below 65,536, and congruent to the count and the coordinates added up as integers (document 01: "the sum
 --                of the count and all coordinates modulo 65,536")
-use mathlib.Core.Path.{_≡_, refl, sym, _∙_, ap, ap₂}
-use mathlib.Core.List.{List, [], _∷_}
-use Prim.Native.Nat.{ℕ, suc, _+_, _-_, _*_, _/_, _%_, _≤_, _<_}
+--   numbers-fit  the numbers that are read have 16 bits, so that this holds of them
+use mathlib.Core.Path.{_≡_, refl, sym, _∙_, ap, ap₂, subst}
+use mathlib.Core.Bool.{Bool, true, false, _&&_, cond}
+use mathlib.Core.List.{List, [], _∷_, _++_}
+use Prim.Native.Nat.{ℕ, zero, suc, _+_, _-_, _*_, _/_, _%_, _≤_, _<_}
 use native.Mathlib.Omega.{arith}
 use native.Mathlib.Numerals.{add-one}
-use lib.IntN.{ℤ, pos, negsuc, _+ℤ_, +ℤ-assoc, +ℤ-comm}
+use borrow.Author.Tests.{ltb-true, ltb-false}
+use lib.Dec.{ltb}
+use lib.IntN.{ℤ, pos, negsuc, subℕ, _+ℤ_, +ℤ-assoc, +ℤ-comm}
 use lib.ListN.{length, drop, getD, drop-of-length-le}
 use lib.Seq.{drop-cons}
 use mir.Syntax.{w16}
 use mir.Val.{SFits}
 use Rattle.meaning.specs.Counting.{All}
-use Rattle.codes.proofs.Shift.{down-not}
-use Rattle.text.specs.Frames.{word}
-use Rattle.text.specs.Reading.{total, closingSum}
+use Rattle.codes.proofs.Shift.{down-not, down-below}
+use Rattle.text.specs.declared.frames.One.{One}
+use Rattle.text.specs.declared.frames.One.the-variants.{Ill, Number}
+use Rattle.text.specs.declared.frames.Three.the-variants.{Ill as Ill³}
+use Rattle.text.specs.Frames.{byteAt, digitValue, fourOf, fourAt, lineAt, together, threeAt, signed, word}
+use Rattle.text.specs.Reading.{numbersOf, numbersFrom, total, closingSum}
+use Rattle.text.proofs.ByEnds.{all-four}
 
 module _ (l : List ℤ) (i sum whole : ℕ) (so-far : (sum + total (drop i l)) % 65536 ≡ whole % 65536) where
   pub sum-more : (w : ℕ) → i < length l → w ≡ word (getD l i (pos 0)) → ((sum + w) % 65536 + total (drop (i + 1) l)) % 65536 ≡ whole % 65536
@@ -78,3 +86,47 @@ closing-sum n ns h =
       },
       omega arith,
     )
+
+-- ---- the numbers that are read
+
+signed-fits : (n : ℕ) → n < 65536 → SFits w16 (signed n)
+signed-fits n h = by (ltb n 32768) refl
+  where
+    by : (t : Bool) → ltb n 32768 ≡ t → SFits w16 (cond t (pos n) (subℕ n 65536))
+    by true e = record { sfits = omega (arith, ltb-true n 32768 e) }
+    by false e = subst (SFits w16) (sym (down-below n 65536 h)) (record { sfits = omega (arith, ltb-false n 32768 e) })
+
+number-small : (a b c d m : ℕ) → fourOf a b c d ≡ Number m → m < 65536
+number-small a b c d m e = by (ltb a 16 && (ltb b 16 && (ltb c 16 && ltb d 16))) (all-four a b c d m e) e
+  where
+    by : (t : Bool) → (a < 16) × (b < 16) × (c < 16) × (d < 16) → cond t (Number (((a * 16 + b) * 16 + c) * 16 + d)) Ill ≡ Number m → m < 65536
+    by true h e = let is : ((a * 16 + b) * 16 + c) * 16 + d ≡ m = cc in omega (arith, h .0, h .1, h .2, h .3)
+    by false h e = let z : _≡_ {A = ℕ} 0 1 = cc in absurd (omega arith)
+
+module _ (s : List ℕ) (tag : ℕ) where
+  four-fits : (at m : ℕ) → fourAt s at ≡ Number m → SFits w16 (signed m)
+  unfolding fourAt
+  four-fits at m e =
+      signed-fits m
+      (number-small (digitValue (byteAt s at)) (digitValue (byteAt s (at + 1))) (digitValue (byteAt s (at + 2))) (digitValue (byteAt s (at + 3))) m e)
+
+  frame-fits : (at : ℕ) → All (SFits w16) (numbersOf (threeAt s tag at))
+  frame-fits at = by (lineAt s tag 12 at)
+    where
+      parts : (o p q : One) → fourAt s (at + 2) ≡ o → fourAt s (at + 6) ≡ p → fourAt s (at + 10) ≡ q → All (SFits w16) (numbersOf (together o p q))
+      parts (Number a) (Number b) (Number c) eo ep eq = (four-fits (at + 2) a eo, (four-fits (at + 6) b ep, (four-fits (at + 10) c eq, tt)))
+      parts (Number a) (Number b) Ill eo ep eq = tt
+      parts (Number a) Ill q eo ep eq = tt
+      parts Ill p q eo ep eq = tt
+
+      by : (t : Bool) → All (SFits w16) (numbersOf (cond t (together (fourAt s (at + 2)) (fourAt s (at + 6)) (fourAt s (at + 10))) Ill³))
+      by true = parts (fourAt s (at + 2)) (fourAt s (at + 6)) (fourAt s (at + 10)) refl refl refl
+      by false = tt
+
+  both-fit : (l m : List ℤ) → All (SFits w16) l → All (SFits w16) m → All (SFits w16) (l ++ m)
+  both-fit [] m h k = k
+  both-fit (z ∷ l) m h k = (h .0, both-fit l m (h .1) k)
+
+  pub numbers-fit : (start n : ℕ) → All (SFits w16) (numbersFrom s tag start n)
+  numbers-fit start zero = tt
+  numbers-fit start (suc n) = both-fit (numbersFrom s tag start n) (numbersOf (threeAt s tag (start + 15 * n))) (numbers-fit start n) (frame-fits (start + 15 * n))
