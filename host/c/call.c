@@ -132,12 +132,43 @@ static void joins(struct slice result, struct slice small) {
     free(other.at);
 }
 
+/* Examples 13 and 14, and cuts that are refused. */
+static void cuts(struct slice map, struct slice result, struct slice small) {
+    static const int16_t square[] = {0, 0, 0, 1, 1, 0, 1, 1};
+    uint64_t halves;
+    fill(result);
+    same("section", 4, (long)travelmap_section(LENT(map), TRAVELMAP_FOCUS, -1, LENT(result)));
+    same_list("section, list", square, 8, result);
+    fill(result);
+    same("section, none", 0, (long)travelmap_section(LENT(map), TRAVELMAP_FOCUS, 0, LENT(result)));
+    same("section, axis", TRAVELMAP_BAD_NUMBER, TRAVELMAP_NUMBER(travelmap_section(LENT(map), 3, 0, LENT(result))));
+    same("section, code", TRAVELMAP_BAD_NUMBER, TRAVELMAP_NUMBER(travelmap_section(LENT(map), 0, 512, LENT(result))));
+    same("section, no room", TRAVELMAP_NO_ROOM,
+         TRAVELMAP_NUMBER(travelmap_section(LENT(map), TRAVELMAP_SECOND_SHIFT, 0, result.at, 7)));
+    same_list("section, refused", square, 0, result);
+    fill(small);
+    halves = travelmap_split(LENT(map), TRAVELMAP_FOCUS, -512, LENT(small), LENT(result));
+    same("split, low", 0, TRAVELMAP_COUNT(halves));
+    same("split, high", 8, TRAVELMAP_SECOND_COUNT(halves));
+    same_list("split, low list", printed, 0, small);
+    same_list("split, high list", printed, 24, result);
+    fill(result);
+    halves = travelmap_split(LENT(map), TRAVELMAP_FIRST_SHIFT, 512, LENT(small), LENT(result));
+    same("split, no room", TRAVELMAP_NO_ROOM, TRAVELMAP_NUMBER(halves));
+    same("split, half", 1, TRAVELMAP_OPERAND(halves));
+    same("split, other half", 2,
+         TRAVELMAP_OPERAND(travelmap_split(LENT(map), TRAVELMAP_FIRST_SHIFT, -1, LENT(result), LENT(small))));
+    same_list("split, refused", printed, 0, result);
+    same_list("split, refused", printed, 0, small);
+}
+
 int main(void) {
     struct slice map = SLICE(printed), result = SLICE(room), small = SLICE(short_room);
     asks(map);
     wishes(map);
     boxes(result, small);
     joins(result, small);
+    cuts(map, result, small);
     free(map.at);
     free(result.at);
     free(small.at);

@@ -25,3 +25,13 @@ uint64_t travelmap_join(uint32_t operation, const int16_t *first, size_t first_l
     (void)operation, (void)first, (void)first_length, (void)second, (void)second_length, (void)result;
     return (void)result_length, 0;
 }
+uint64_t travelmap_section(const int16_t *list, size_t length, uint32_t axis, int16_t code, int16_t *result,
+                           size_t result_length) {
+    (void)list, (void)length, (void)axis, (void)code, (void)result;
+    return (void)result_length, 0;
+}
+uint64_t travelmap_split(const int16_t *list, size_t length, uint32_t axis, int16_t at, int16_t *low, size_t low_length,
+                         int16_t *high, size_t high_length) {
+    (void)list, (void)length, (void)axis, (void)at, (void)low, (void)low_length, (void)high;
+    return (void)high_length, 0;
+}

@@ -52,13 +52,14 @@ macro_rules! function {
 }
 
 /// The functions that the library has, and the program. A function is added by its line.
-/// To come: section, split.
 pub const FUNCTIONS: &[Function] = &[
     function!("travelmap_check", check),
     function!("travelmap_box", make_box),
     function!("travelmap_cell", cell),
     function!("travelmap_corner", corner),
     function!("travelmap_plane", plane),
+    function!("travelmap_section", section),
+    function!("travelmap_split", split),
     Function {
         every: Some(|run| join::compare_every(lib_calls::join, run)),
         ..function!("travelmap_join", join)

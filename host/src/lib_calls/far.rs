@@ -9,7 +9,6 @@ use std::sync::{LazyLock, Mutex};
 
 /// The functions as far.c numbers them.
 #[derive(Clone, Copy)]
-#[allow(dead_code)]
 enum Far {
     Check,
     Box,
@@ -173,13 +172,11 @@ pub fn plane(list: &[i16], focus: i16) -> u64 {
 }
 
 /// The section at a code of an axis.
-#[allow(dead_code)]
 pub fn section(list: &[i16], axis: u32, code: i16, result: &mut [i16]) -> u64 {
     call(Far::Section, axis, &[code], &[list], &mut [result])
 }
 
 /// The two halves at a corner number of an axis.
-#[allow(dead_code)]
 pub fn split(list: &[i16], axis: u32, at: i16, low: &mut [i16], high: &mut [i16]) -> u64 {
     call(Far::Split, axis, &[at], &[list], &mut [low, high])
 }

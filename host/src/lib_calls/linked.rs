@@ -1,6 +1,5 @@
 //! The functions as C declares them, linked from the static library, and a safe call of each. A slice is a pointer
-//! and a length. A call that functions/mod.rs does not name is not linked, so that the library may lack it.
-//! The program is linked too: its standard input and output are here.
+//! and a length. The program is linked too: its standard input and output are here.
 
 use std::cell::RefCell;
 
@@ -89,14 +88,12 @@ pub fn plane(list: &[i16], focus: i16) -> u64 {
 }
 
 /// The section at a code of an axis.
-#[allow(dead_code)]
 pub fn section(list: &[i16], axis: u32, code: i16, result: &mut [i16]) -> u64 {
     let (start, len) = (result.as_mut_ptr(), result.len());
     unsafe { travelmap_section(list.as_ptr(), list.len(), axis, code, start, len) }
 }
 
 /// The two halves at a corner number of an axis.
-#[allow(dead_code)]
 pub fn split(list: &[i16], axis: u32, at: i16, low: &mut [i16], high: &mut [i16]) -> u64 {
     let (low, low_len) = (low.as_mut_ptr(), low.len());
     let (high, high_len) = (high.as_mut_ptr(), high.len());

@@ -60,8 +60,15 @@ impl Ready<'_> {
         }
     }
 
-    /// The nearest cell to a wish, with its distance.
-    pub fn best(&self, wish: [i32; 3]) -> Best {
+    /// The nearest cell to a wish, with its distance. All cells lie on one side of a wish beyond the map, so the search
+    /// begins at the map's edge and what lies between is added.
+    pub fn best(&self, far_wish: [i32; 3]) -> Best {
+        let numbers = [&self.focus, &self.first.numbers, &self.second.numbers];
+        let wish = [0, 1, 2].map(|axis| {
+            let (low, high) = (numbers[axis][0], numbers[axis][numbers[axis].len() - 1]);
+            nearest_in(far_wish[axis], low, high)
+        });
+        let between: i32 = (0..3).map(|axis| (far_wish[axis] - wish[axis]).abs()).sum();
         let mut search = Search {
             ready: self,
             row: start(wish[1], &self.first.numbers),
@@ -70,7 +77,7 @@ impl Ready<'_> {
             best: (i32::MAX, [0; 3]),
         };
         search.slabs();
-        search.best
+        (search.best.0 + between, search.best.1)
     }
 }
 
