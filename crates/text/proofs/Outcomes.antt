@@ -1,29 +1,21 @@
 -- What the input comes to, and what is put out for it.
 --   too-long, not-long           by the bytes of the input
---   map-valid                    a map that is read whole is valid
---   read-long, read-count        its numbers, and its vertices, by how many frames were read
+--   read-long, read-count        the numbers and the vertices of a map, by how many frames were read
 --   put-refusal, put-answers     one 06 line; the 05 lines
 --   wishes-refused, wishes-answered, map-refused, map-answered, bytes-refused     the same of the whole outcome
-use mathlib.Core.Path.{_≡_, refl, sym, _∙_, ap, subst}
+use mathlib.Core.Path.{_≡_, sym, _∙_, ap, subst}
 use mathlib.Core.Bool.{Bool, true, false, cond}
 use mathlib.Core.List.{List}
-use Prim.Native.Nat.{ℕ, _+_, _*_, _/_, _≤_, _<_}
+use Prim.Native.Nat.{ℕ, _*_, _/_, _≤_, _<_}
 use native.Mathlib.Omega.{arith}
-use borrow.Author.Tests.{lt-ltb, le-ltb, eqb-true}
-use lib.Dec.{ltb, eqb}
+use borrow.Author.Tests.{lt-ltb, le-ltb}
+use lib.Dec.{ltb}
 use lib.IntN.{ℤ}
 use lib.ListN.{length, take, drop, length-append}
 use lib.Seq.{take-at, drop-at, length-take-le}
-use Rattle.meaning.specs.Counting.{first}
-use Rattle.meaning.specs.Lists.{vertices, mostVertices}
-use Rattle.meaning.specs.Verdicts.{verdict, refusalNumber, refusalPlace}
-use Rattle.meaning.specs.declared.Verdict.{Verdict}
-use Rattle.meaning.specs.declared.Verdict.the-variants.{Valid, NotTriples, TooMany, OutOfRange, NotRising, OddLine}
+use Rattle.meaning.specs.Lists.{vertices}
 use Rattle.lists.proofs.Vertices.{length-vertices}
-use Rattle.text.specs.declared.frames.One.{One}
-use Rattle.text.specs.declared.frames.One.the-variants.{Ill, Number}
-use Rattle.text.specs.Frames.{oneAt}
-use Rattle.text.specs.Reading.{Text, refused, whole, countTag, vertexTag, sumTag, illAt, numbersFrom, unlessIll, closingSum, byVerdict, closed, counted, mapText, wishText}
+use Rattle.text.specs.Reading.{Text, refused, whole, mapText, wishText}
 use Rattle.text.specs.Program.{refusal, answers, withWishes, withMap, outcome, refusalLine, Answers, Put}
 use Rattle.text.specs.Inner.{Filled, Written}
 use Rattle.text.proofs.Settled.{most-bytes}
@@ -42,46 +34,6 @@ module _ (s : List ℕ) where
   not-long h = by-bytes false (le-ltb 19214 (length s) h)
 
 -- ---- a map that is read whole
-
-whole-not-refused : (ns : List ℤ) (a b : ℕ) → whole ns ≡ refused a b → ⊥
-whole-not-refused ns a b e = let z : _≡_ {A = ℕ} 0 1 = cc in omega arith
-
-passed : (v : Verdict) → refusalNumber v ≡ 0 → v ≡ Valid
-passed Valid e = refl
-passed NotTriples e = absurd (omega arith)
-passed TooMany e = absurd (omega arith)
-passed (OutOfRange i) e = absurd (omega arith)
-passed (NotRising i) e = absurd (omega arith)
-passed (OddLine i) e = absurd (omega arith)
-
-module _ (ns : List ℤ) where
-  past : (t : Bool) (a b : ℕ) (next : Text) → whole ns ≡ cond t (refused a b) next → whole ns ≡ next
-  past true a b next e = absurd (whole-not-refused ns a b e)
-  past false a b next e = e
-
-  by-number : (v : Verdict) (ms : List ℤ) (t : Bool) → eqb (refusalNumber v) 0 ≡ t → whole ns ≡ cond t (whole ms) (refused (refusalNumber v) (refusalPlace v))
-      → (v ≡ Valid) × (ns ≡ ms)
-  by-number v ms true e f = (passed v (eqb-true (refusalNumber v) 0 e), cc)
-  by-number v ms false e f = absurd (whole-not-refused ns _ _ f)
-
-  by-sum : (ms : List ℤ) (t : Bool) → whole ns ≡ cond t (byVerdict ms (verdict ms)) (refused 11 0) → verdict ns ≡ Valid
-  by-sum ms true e = let (v, same) = by-number (verdict ms) ms (eqb (refusalNumber (verdict ms)) 0) refl e in ap verdict same ∙ v
-  by-sum ms false e = absurd (whole-not-refused ns 11 0 e)
-
-  by-closing : (n : ℕ) (ms : List ℤ) (o : One) → whole ns ≡ closed n ms o → verdict ns ≡ Valid
-  by-closing n ms Ill e = absurd (whole-not-refused ns 10 (n + 2) e)
-  by-closing n ms (Number m) e = by-sum ms (eqb m (closingSum n ms)) e
-
-  by-count : (s : List ℕ) (o : One) → whole ns ≡ counted s o → verdict ns ≡ Valid
-  by-count s Ill e = absurd (whole-not-refused ns 10 1 e)
-  by-count s (Number n) e =
-      let lines = unlessIll (illAt s vertexTag 7) n 2 (closed n (numbersFrom s vertexTag 7 n) (oneAt s sumTag (7 + 15 * n))) in
-      by-closing n (numbersFrom s vertexTag 7 n) (oneAt s sumTag (7 + 15 * n))
-      (past (ltb (first (illAt s vertexTag 7) n) n) 10 (2 + first (illAt s vertexTag 7) n) _ (past (ltb mostVertices n) 2 0 lines e))
-
-  pub map-valid : (s : List ℕ) → whole ns ≡ mapText s → verdict ns ≡ Valid
-  unfolding mapText
-  map-valid s e = by-count s (oneAt s countTag 0) e
 
 -- the numbers of n frames at the front of a list that has room for them
 pub read-long : (n : ℕ) (l : List ℤ) → 3 * n ≤ length l → length (take (3 * n) l) ≡ 3 * n

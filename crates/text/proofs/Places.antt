@@ -4,27 +4,33 @@
 --                         closing line is
 --   WishTen, wish-ten     of the wishes behind a map that is read whole: a wish's line is ill formed and all before it are well formed; or it
 --                         is the 257th, and all before it are well formed
-use mathlib.Core.Path.{_≡_, refl, sym, _∙_, ap}
+--   Read, map-read        a map's text that is read whole has well formed lines throughout, and its list is valid
+--   InputTen, input-ten   of the program's input: the one or the other
+use mathlib.Core.Path.{_≡_, refl, sym, _∙_, ap, subst}
 use mathlib.Core.Logic.{_⊎_, inl, inr}
 use mathlib.Core.Bool.{Bool, true, false, _||_, cond}
 use mathlib.Core.List.{List}
-use Prim.Native.Nat.{ℕ, _+_, _*_, _≤_, _<_, min}
+use Prim.Native.Nat.{ℕ, _+_, _*_, _/_, _≤_, _<_, min}
 use native.Mathlib.Omega.{arith}
-use borrow.Author.Tests.{ltb-true, ltb-false}
+use borrow.Author.Tests.{ltb-true, ltb-false, eqb-true}
 use lib.Dec.{ltb, leb, eqb}
 use lib.IntN.{ℤ}
+use lib.ListN.{length}
 use Rattle.meaning.specs.Counting.{first}
-use Rattle.meaning.specs.Lists.{mostVertices}
-use Rattle.meaning.specs.Verdicts.{verdict}
+use Rattle.meaning.specs.Lists.{vertices, mostVertices}
+use Rattle.meaning.specs.Verdicts.{verdict, refusalNumber, refusalPlace}
 use Rattle.meaning.specs.declared.Verdict.{Verdict}
 use Rattle.meaning.specs.declared.Verdict.the-variants.{Valid, NotTriples, TooMany, OutOfRange, NotRising, OddLine}
 use Rattle.meaning.proofs.Checked.{first-is}
 use Rattle.text.specs.declared.frames.One.{One}
 use Rattle.text.specs.declared.frames.One.the-variants.{Ill, Number}
 use Rattle.text.specs.Frames.{lineEnd, oneAt}
-use Rattle.text.specs.Reading.{refused, whole, countTag, vertexTag, sumTag, wishTag, illAt, numbersFrom, unlessIll, closingSum, byVerdict, closed, counted, mapText, wishPlace, wishLines, mostWishes, wishText}
+use Rattle.text.specs.Reading.{Text, refused, whole, countTag, vertexTag, sumTag, wishTag, illAt, numbersFrom, unlessIll, closingSum, byVerdict, closed, counted, mapText, wishPlace, wishLines, mostWishes, wishText}
+use Rattle.lists.proofs.Vertices.{length-vertices}
+use Rattle.text.specs.Program.{refusal, answers, withWishes, withMap, mostBytes, outcome}
+use Rattle.text.proofs.Runs.{numbers-long}
 use Rattle.text.proofs.Order.{first-within}
-use Rattle.text.proofs.ByEnds.{Begins, Well, Bad, count-bad, count-well, vertices-begin, run-well, run-bad, sum-bad}
+use Rattle.text.proofs.ByEnds.{Begins, Well, Bad, count-bad, count-well, vertices-begin, run-well, run-bad, sum-bad, wishes-begin}
 
 -- n lines of a tag behind so many lines are well formed
 abbrev pub AllWell : List ℕ → ℕ → ℕ → ℕ → Type 0
@@ -141,3 +147,106 @@ module _ (s : List ℕ) (n : ℕ) where
     pub wish-ten : (p : ℕ) → refused 10 p ≡ wishText s n → WishTen s n p
     unfolding wishText mostWishes
     wish-ten p e = by-wishes p (ltb (first bad (wishLines s n)) (wishLines s n)) refl e
+
+-- ---- a map that is read whole, and the program's input
+
+-- line 1 holds a count, that many lines their vertices and the next a sum, and the list is valid
+pub record Read (s : List ℕ) (ns : List ℤ) : Type 0 where
+  pub count : ℕ
+  pub counts : Number count ≡ oneAt s countTag 0
+  pub lines : (k : ℕ) → k < count → illAt s vertexTag 7 k ≡ false
+  pub sum : ℕ
+  pub sums : Number sum ≡ oneAt s sumTag (7 + 15 * count)
+  pub numbers : ns ≡ numbersFrom s vertexTag 7 count
+  pub valid : verdict ns ≡ Valid
+
+not-refused : (ns : List ℤ) (a b : ℕ) → whole ns ≡ refused a b → ⊥
+not-refused ns a b e = let z : _≡_ {A = ℕ} 0 1 = cc in omega arith
+
+passed : (v : Verdict) → refusalNumber v ≡ 0 → v ≡ Valid
+passed Valid e = refl
+passed NotTriples e = absurd (omega arith)
+passed TooMany e = absurd (omega arith)
+passed (OutOfRange i) e = absurd (omega arith)
+passed (NotRising i) e = absurd (omega arith)
+passed (OddLine i) e = absurd (omega arith)
+
+same-numbers : (ns ms : List ℤ) → whole ns ≡ whole ms → ns ≡ ms
+same-numbers ns ms e = cc
+
+module _ (s : List ℕ) (ns : List ℤ) where
+  past : (t : Bool) (a b : ℕ) (next : Text) → whole ns ≡ cond t (refused a b) next → (t ≡ false) × (whole ns ≡ next)
+  past true a b next e = absurd (not-refused ns a b e)
+  past false a b next e = (refl, e)
+
+  through : (t : Bool) (a b : ℕ) (next : Text) → whole ns ≡ cond t next (refused a b) → (t ≡ true) × (whole ns ≡ next)
+  through true a b next e = (refl, e)
+  through false a b next e = absurd (not-refused ns a b e)
+
+  module _ (n : ℕ) (en : Number n ≡ oneAt s countTag 0) (all : n ≤ first (illAt s vertexTag 7) n) where
+    read-closing : (o : One) → oneAt s sumTag (7 + 15 * n) ≡ o → whole ns ≡ closed n (numbersFrom s vertexTag 7 n) o → Read s ns
+    read-closing Ill eo e = absurd (not-refused ns 10 (n + 2) e)
+    read-closing (Number m) eo e =
+        let ms = numbersFrom s vertexTag 7 n in
+        let v = verdict ms in
+        let f = first-is (illAt s vertexTag 7) n in
+        let (right, k) = through (eqb m (closingSum n ms)) 11 0 (byVerdict ms v) e in
+        let (none, l) = through (eqb (refusalNumber v) 0) (refusalNumber v) (refusalPlace v) (whole ms) k in
+        record {
+          count = n;
+          counts = en;
+          lines = λ k h. f .before k (omega arith);
+          sum = m;
+          sums = sym eo;
+          numbers = same-numbers ns ms l;
+          valid = ap verdict (same-numbers ns ms l) ∙ passed v (eqb-true (refusalNumber v) 0 none);
+        }
+
+  read-count : (o : One) → oneAt s countTag 0 ≡ o → whole ns ≡ counted s o → Read s ns
+  read-count Ill eo e = absurd (not-refused ns 10 1 e)
+  read-count (Number n) eo e =
+      let r = first (illAt s vertexTag 7) n in
+      let after = closed n (numbersFrom s vertexTag 7 n) (oneAt s sumTag (7 + 15 * n)) in
+      let (few, k) = past (ltb mostVertices n) 2 0 (unlessIll (illAt s vertexTag 7) n 2 after) e in
+      let (all, l) = past (ltb r n) 10 (2 + r) after k in
+      read-closing n (sym eo) (ltb-false r n all) (oneAt s sumTag (7 + 15 * n)) refl l
+
+  pub map-read : whole ns ≡ mapText s → Read s ns
+  unfolding mapText
+  map-read e = read-count (oneAt s countTag 0) refl e
+
+  -- the wishes' lines begin behind the map's
+  pub read-begins : Read s ns → Begins s (length (vertices ns) + 2) (wishPlace (length (vertices ns)))
+  read-begins r =
+      let n : length (vertices ns) ≡ r .count =
+      length-vertices ns ∙ ap (λ l. length l / 3) (r .numbers) ∙ omega (arith, numbers-long s vertexTag 7 (r .count) (r .lines)) in
+      subst (λ k. Begins s (k + 2) (wishPlace k)) (sym n) (wishes-begin s (r .counts) (r .lines) (r .sums))
+
+-- refusal 10 of an input is that of its map, or that of its wishes behind a map that is read whole
+pub data InputTen (s : List ℕ) (p : ℕ) : Type 0 where
+  in-map : MapTen s p → InputTen s p
+  in-wishes : (ns : List ℤ) → whole ns ≡ mapText s → WishTen s (length (vertices ns)) p → InputTen s p
+
+not-answers : (a b : ℕ) (ns ws : List ℤ) → refusal a b ≡ answers ns ws → ⊥
+not-answers a b ns ws e = let z : _≡_ {A = ℕ} 0 1 = cc in omega arith
+
+module _ (s : List ℕ) (p : ℕ) where
+  in-text : (a b : ℕ) (t : Text) → t ≡ refused a b → refusal 10 p ≡ refusal a b → refused 10 p ≡ t
+  in-text a b t e f = cc
+
+  by-wish-text : (ns : List ℤ) → whole ns ≡ mapText s → (t : Text) → wishText s (length (vertices ns)) ≡ t → refusal 10 p ≡ withWishes ns t → InputTen s p
+  by-wish-text ns e (refused a b) et f =
+      in-wishes ns e (wish-ten s (length (vertices ns)) (read-begins s ns (map-read s ns e)) p (in-text a b (wishText s (length (vertices ns))) et f))
+  by-wish-text ns e (whole ws) et f = absurd (not-answers 10 p ns ws f)
+
+  by-map-text : (t : Text) → mapText s ≡ t → refusal 10 p ≡ withMap s t → InputTen s p
+  by-map-text (refused a b) et f = in-map (map-ten s p (in-text a b (mapText s) et f))
+  by-map-text (whole ns) et f = by-wish-text ns (sym et) (wishText s (length (vertices ns))) refl f
+
+  by-length : (t : Bool) → refusal 10 p ≡ cond t (refusal 12 0) (withMap s (mapText s)) → InputTen s p
+  by-length true e = let z : _≡_ {A = ℕ} 10 12 = cc in absurd (omega arith)
+  by-length false e = by-map-text (mapText s) refl e
+
+  pub input-ten : refusal 10 p ≡ outcome s → InputTen s p
+  unfolding outcome
+  input-ten e = by-length (ltb mostBytes (length s)) e

@@ -8,7 +8,8 @@ use lib.ListN.{length, take}
 use lib.Seq.{length-take-le}
 use Rattle.text.specs.Inner.{meant, AtMost}
 use Rattle.text.specs.Reading.{whole, mapText}
-use Rattle.text.proofs.Outcomes.{map-valid, bytes-refused, map-refused, map-answered}
+use Rattle.text.proofs.Places.{map-read}
+use Rattle.text.proofs.Outcomes.{bytes-refused, map-refused, map-answered}
 use Rattle.text.proofs.respond.Statement.{statement}
 use Rattle.text.proofs.respond.Tie as tie
 
@@ -59,7 +60,7 @@ slice-aggregate-answer-wishes : tie.Need-slice-aggregate-answer-wishes
 slice-aggregate-answer-wishes c = sym (length-take-le _ _ (fits (c .before)))
 
 answer-wishes-requires : tie.Need-answer-wishes-requires
-answer-wishes-requires c κs = (few (c .before .before), (map-valid _ _ (read (c .before .before)), search needs))
+answer-wishes-requires c κs = (few (c .before .before), (map-read _ _ (read (c .before .before)) .valid, search needs))
 
 returns-2 : tie.Need-returns-2
 returns-2 c =
