@@ -68,9 +68,10 @@ pub fn write_pairs(keys: &[u32], out: &mut [i16])
     requires { ⌜ 2 * length (now keys) ≤ length (now out) ⌝ }
     ensures { λ r. ⌜ now (out .exit) ≡ pairNumbers (map pairOfKey (now (keys .entry))) ++ drop (2 * length (now (keys .entry))) (now (out .entry)) ⌝ }
 {
+    let count = keys.len();
     let mut i = 0;
     let mut n = 0;
-    while i < keys.len() {
+    while i < count {
         let key = keys[i];
         out[n] = number_of(key / LINE);
         n += 1;

@@ -13,10 +13,10 @@ use Rattle.keys.proofs.write_pairs.Statement.{statement}
 use Rattle.keys.proofs.write_pairs.Tie as tie
 
 abbrev Inv-loop : tie.InvT-loop
-Inv-loop keys out₀ i₀ n₀ out i n = Spelling 2 (λ l. pairNumbers (map pairOfKey l)) PairOk keys out₀ out i n
+Inv-loop keys out₀ count i₀ n₀ out i n = Spelling 2 (λ l. pairNumbers (map pairOfKey l)) PairOk keys out₀ out i n
 
 abbrev μ-loop : tie.MeasureT-loop
-μ-loop keys out₀ i₀ n₀ out i n = length keys - i
+μ-loop keys out₀ count i₀ n₀ out i n = length keys - i
 
 good : (c : tie.In-loop Inv-loop μ-loop) → PairOk (getD (now (c .before .before .before .args .keys)) (c .before .loop .i) 0)
 good c = next-good _ _ _ _ _ _ _ _ (c .before .loop .inv) (omega arith)
