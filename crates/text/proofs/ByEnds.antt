@@ -24,11 +24,11 @@ use lib.ListN.{length}
 use Rattle.meaning.specs.Counting.{first}
 use Rattle.meaning.proofs.Checked.{first-is}
 use Rattle.codes.proofs.Tests.{and-both}
-use Rattle.text.specs.declared.frames.One.{One}
-use Rattle.text.specs.declared.frames.One.the-variants.{Ill, Number}
-use Rattle.text.specs.Frames.{zero as nought, lineEnd, byteAt, digitValue, fourOf, fourAt, lineAt, together, oneAt, threeAt}
+use Rattle.frames.specs.declared.One.{One}
+use Rattle.frames.specs.declared.One.the-variants.{Ill, Number}
+use Rattle.frames.specs.Frames.{zero as nought, lineEnd, byteAt, digitValue, fourOf, fourAt, lineAt, together, oneAt, threeAt}
 use Rattle.text.specs.Reading.{countTag, vertexTag, sumTag, isIll, illAt, wishPlace, wishLines}
-use Rattle.text.proofs.FrameLaws.{four-whole, one-four, three-whole}
+use Rattle.frames.proofs.FrameLaws.{four-whole, one-four, three-whole}
 
 pub record Ends (s : List ℕ) (at end : ℕ) : Type 0 where
   pub some : at < end

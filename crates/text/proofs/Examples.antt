@@ -8,7 +8,7 @@ use Prim.Native.Nat.{ℕ}
 use lib.IntN.{pos, negsuc}
 use Rattle.meaning.specs.Lists.{mostVertices}
 use Rattle.meaning.specs.Verdicts.{verdict}
-use Rattle.text.specs.Frames.{fourAt, lineAt, twoDigits, fourDigits, lineEnd}
+use Rattle.frames.specs.Frames.{fourAt, lineAt, twoDigits, fourDigits, lineEnd}
 use Rattle.text.specs.Reading.{mapText, wishText, mostWishes}
 use Rattle.text.specs.Program.{mostBytes, refusal, answers, outcome}
 

@@ -1,5 +1,4 @@
 -- Laws that the proofs of this crate cite.
-pub mod FrameLaws
 pub mod Runs
 pub mod Totals
 pub mod Order

@@ -20,7 +20,7 @@ use Rattle.meaning.specs.declared.Verdict.{Verdict}
 use Rattle.meaning.specs.declared.Verdict.the-variants.{Valid}
 use Rattle.nearest.specs.Answer.{Answered}
 use Rattle.nearest.specs.declared.Found.the-variants.{At, Empty, Refused}
-use Rattle.text.specs.Frames.{digitOf, fourDigits}
+use Rattle.frames.specs.Frames.{digitOf, fourDigits}
 use Rattle.text.specs.Program.{cellLine, emptyLine, wishAt, AnswerLine, Answers}
 
 pub four-then : {m n a b c d : ℕ} {r s : List ℕ} → n ≡ m → a ≡ digitOf (n / 4096 % 16) → b ≡ digitOf (n / 256 % 16) → c ≡ digitOf (n / 16 % 16)

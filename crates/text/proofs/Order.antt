@@ -16,8 +16,8 @@ use Rattle.meaning.specs.Counting.{first}
 use Rattle.meaning.specs.Lists.{mostVertices}
 use Rattle.meaning.specs.Verdicts.{verdict}
 use Rattle.meaning.proofs.Checked.{First, first-is, is-first}
-use Rattle.text.specs.declared.frames.One.the-variants.{Ill, Number}
-use Rattle.text.specs.Frames.{oneAt}
+use Rattle.frames.specs.declared.One.the-variants.{Ill, Number}
+use Rattle.frames.specs.Frames.{oneAt}
 use Rattle.text.specs.Reading.{Text, refused, whole, countTag, vertexTag, sumTag, wishTag, illAt, numbersFrom, unlessIll, closingSum, byVerdict, closed, counted, mapText, wishPlace, wishLines, mostWishes, wishText}
 
 -- ---- a run of lines

@@ -22,9 +22,9 @@ use Rattle.meaning.specs.Verdicts.{verdict, refusalNumber, refusalPlace}
 use Rattle.meaning.specs.declared.Verdict.{Verdict}
 use Rattle.meaning.specs.declared.Verdict.the-variants.{Valid, NotTriples, TooMany, OutOfRange, NotRising, OddLine}
 use Rattle.meaning.proofs.Checked.{first-is}
-use Rattle.text.specs.declared.frames.One.{One}
-use Rattle.text.specs.declared.frames.One.the-variants.{Ill, Number}
-use Rattle.text.specs.Frames.{lineEnd, oneAt}
+use Rattle.frames.specs.declared.One.{One}
+use Rattle.frames.specs.declared.One.the-variants.{Ill, Number}
+use Rattle.frames.specs.Frames.{lineEnd, oneAt}
 use Rattle.text.specs.Reading.{Text, refused, whole, countTag, vertexTag, sumTag, wishTag, illAt, numbersFrom, unlessIll, closingSum, byVerdict, closed, counted, mapText, wishPlace, wishLines, mostWishes, wishText}
 use Rattle.lists.proofs.Vertices.{length-vertices}
 use Rattle.text.specs.Program.{refusal, answers, withWishes, withMap, mostBytes, outcome}

@@ -16,9 +16,9 @@ use lib.ListN.{length, take, drop, set, length-append}
 use lib.Seq.{sets, sets-eq, length-sets, take-at, length-take-le}
 use Rattle.meaning.specs.Counting.{first}
 use Rattle.meaning.proofs.Checked.{first-is, is-first}
-use Rattle.text.specs.declared.frames.Three.{Three}
-use Rattle.text.specs.declared.frames.Three.the-variants.{Ill, Numbers}
-use Rattle.text.specs.Frames.{threeAt, signed}
+use Rattle.frames.specs.declared.Three.{Three}
+use Rattle.frames.specs.declared.Three.the-variants.{Ill, Numbers}
+use Rattle.frames.specs.Frames.{threeAt, signed}
 use Rattle.text.specs.Reading.{isIll, numbersOf, illAt, numbersFrom}
 
 pub record Run (s : List ℕ) (tag start n : ℕ) (before now : List ℤ) (i : ℕ) : Type 0 where

@@ -21,10 +21,10 @@ use mir.Syntax.{w16}
 use mir.Val.{SFits}
 use Rattle.meaning.specs.Counting.{All}
 use Rattle.codes.proofs.Shift.{down-not, down-below}
-use Rattle.text.specs.declared.frames.One.{One}
-use Rattle.text.specs.declared.frames.One.the-variants.{Ill, Number}
-use Rattle.text.specs.declared.frames.Three.the-variants.{Ill as Ill³}
-use Rattle.text.specs.Frames.{byteAt, digitValue, fourOf, fourAt, lineAt, together, threeAt, signed, word}
+use Rattle.frames.specs.declared.One.{One}
+use Rattle.frames.specs.declared.One.the-variants.{Ill, Number}
+use Rattle.frames.specs.declared.Three.the-variants.{Ill as Ill³}
+use Rattle.frames.specs.Frames.{byteAt, digitValue, fourOf, fourAt, lineAt, together, threeAt, signed, word}
 use Rattle.text.specs.Reading.{numbersOf, numbersFrom, total, closingSum}
 use Rattle.text.proofs.ByEnds.{all-four}
 

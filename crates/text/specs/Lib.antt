@@ -1,5 +1,4 @@
 -- What must be believed: the text form of a map, and what the program writes. Their laws are under proofs/.
-pub mod Frames
 pub mod Reading
 pub mod Program
 pub mod Inner

@@ -20,7 +20,7 @@ use lib.ListN.{length, getD, take, drop}
 use Rattle.meaning.specs.Numbers.{Cell, Corner, cell}
 use Rattle.meaning.specs.Lists.{vertices, permitted, mostVertices}
 use Rattle.meaning.specs.Nearest.{Nearest}
-use Rattle.text.specs.Frames.{word, lineEnd, twoDigits, fourDigits}
+use Rattle.frames.specs.Frames.{word, lineEnd, twoDigits, fourDigits}
 use Rattle.text.specs.Reading.{Text, refused, whole, mapText, wishPlace, mostWishes, wishText}
 
 -- 19,214

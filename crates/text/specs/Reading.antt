@@ -19,11 +19,11 @@ use Rattle.meaning.specs.Counting.{first}
 use Rattle.meaning.specs.Lists.{mostVertices}
 use Rattle.meaning.specs.Verdicts.{verdict, refusalNumber, refusalPlace}
 use Rattle.meaning.specs.declared.Verdict.{Verdict}
-use Rattle.text.specs.declared.frames.One.{One}
-use Rattle.text.specs.declared.frames.One.the-variants.{Ill as Ill¹, Number}
-use Rattle.text.specs.declared.frames.Three.{Three}
-use Rattle.text.specs.declared.frames.Three.the-variants.{Ill, Numbers}
-use Rattle.text.specs.Frames.{oneAt, threeAt, signed, word}
+use Rattle.frames.specs.declared.One.{One}
+use Rattle.frames.specs.declared.One.the-variants.{Ill as Ill¹, Number}
+use Rattle.frames.specs.declared.Three.{Three}
+use Rattle.frames.specs.declared.Three.the-variants.{Ill, Numbers}
+use Rattle.frames.specs.Frames.{oneAt, threeAt, signed, word}
 
 abbrev pub countTag : ℕ
 countTag = 49

@@ -8,10 +8,9 @@ ghost use Rattle.meaning.specs.Lists.{vertices};
 ghost use Rattle.meaning.specs.Verdicts.{verdict};
 ghost use Rattle.text.specs.Program.{refusalLine, cellLine, emptyLine, wishAt, AnswerLine};
 ghost use Rattle.text.specs.Inner.{Filled, Written};
-use crate::frames;
-use crate::frames::LINE_END;
-use crate::frames::ZERO;
 use crate::reading::NUMBERS;
+use frames::LINE_END;
+use frames::ZERO;
 use meaning::Verdict;
 use nearest::Found;
 

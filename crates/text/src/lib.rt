@@ -1,7 +1,6 @@
-// What the program answers to its input: the text form of a map and of wishes, read and answered. It relies on `frames` for lines as bytes, on
-// `reading` for the checks in their order, on `answers` for the lines that are written.
+// What the program answers to its input: the text form of a map and of wishes, read and answered. It relies on crate `frames` for lines as bytes,
+// on `reading` for the checks in their order, on `answers` for the lines that are written.
 mod answers;
-mod frames;
 mod reading;
 
 ghost use mathlib.Core.Path.{_≡_};

@@ -8,9 +8,8 @@ ghost use lib.ListN.{length, take};
 ghost use Rattle.meaning.specs.Counting.{first};
 ghost use Rattle.text.specs.Reading.{illAt, numbersFrom, closingSum, byVerdict, closed, mapText, wishText};
 ghost use Rattle.text.specs.Inner.{meant, AtMost};
-use crate::frames;
-use crate::frames::One;
-use crate::frames::Three;
+use frames::One;
+use frames::Three;
 use meaning::MOST_VERTICES;
 use meaning::Verdict;
 

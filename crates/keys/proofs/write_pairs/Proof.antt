@@ -45,8 +45,8 @@ add-n c = search needs
 number-of-requires-2 : tie.Need-number-of-requires-2 Inv-loop μ-loop
 number-of-requires-2 c κs = omega (arith, good (c .before .before))
 
-mul-t6 : tie.Need-mul-t6 Inv-loop μ-loop
-mul-t6 c = search needs
+mul-t8 : tie.Need-mul-t8 Inv-loop μ-loop
+mul-t8 c = search needs
 
 slice-set-from-out-2 : tie.Need-slice-set-from-out-2 Inv-loop μ-loop
 slice-set-from-out-2 c = simp length-set (omega arith)
@@ -87,7 +87,7 @@ write-pairs-spec =
     slice-set-from-out
     add-n
     number-of-requires-2
-    mul-t6
+    mul-t8
     slice-set-from-out-2
     add-n-2
     add-i

@@ -4,7 +4,7 @@ use mathlib.Core.List.{[], _∷_}
 use borrow.Author.Needs.{needs}
 use mir.Syntax.{w16}
 use mir.ValLaws.{toZ-ofZ}
-use Rattle.text.specs.Frames.{word}
+use Rattle.frames.specs.Frames.{word}
 use Rattle.text.proofs.Lines.{four-then}
 use Rattle.text.proofs.answers.cell_line.Statement.{statement}
 use Rattle.text.proofs.answers.cell_line.Tie as tie

@@ -8,7 +8,7 @@ use lib.IntN.{pos}
 use lib.ListN.{getD, length, drop}
 use Rattle.lists.proofs.Ends.{read-back}
 use Rattle.text.proofs.Totals.{sum-more, sum-all}
-use Rattle.text.specs.Frames.{word}
+use Rattle.frames.specs.Frames.{word}
 use Rattle.text.specs.Reading.{total}
 use Rattle.text.proofs.reading.closing_sum.Statement.{statement}
 use Rattle.text.proofs.reading.closing_sum.Tie as tie

@@ -6,8 +6,8 @@ use borrow.Author.Needs.{needs}
 use denote.Ref.{now}
 use lib.ListN.{length, take}
 use lib.Seq.{length-take-le}
-use Rattle.text.specs.declared.frames.One.the-variants.{Number}
-use Rattle.text.specs.Frames.{oneAt}
+use Rattle.frames.specs.declared.One.the-variants.{Number}
+use Rattle.frames.specs.Frames.{oneAt}
 use Rattle.text.specs.Reading.{countTag, vertexTag, sumTag, numbersFrom, byVerdict}
 use Rattle.text.proofs.Runs.{all-read}
 use Rattle.text.proofs.Order.{map-ill-count, map-many, map-ill-vertex, map-ill-sum, map-wrong, map-right}

@@ -5,10 +5,10 @@ use native.Mathlib.Omega.{arith}
 use borrow.Author.Needs.{needs}
 use borrow.Author.Tests.{not-true, not-false}
 use denote.Ref.{now}
-use Rattle.text.specs.Frames.{lineAt}
-use Rattle.text.proofs.FrameLaws.{line-long, three-ill, three-ill₁, three-ill₂, three-ill₃, three-whole}
-use Rattle.text.proofs.frames.numbers_at.Statement.{statement}
-use Rattle.text.proofs.frames.numbers_at.Tie as tie
+use Rattle.frames.specs.Frames.{lineAt}
+use Rattle.frames.proofs.FrameLaws.{line-long, three-ill, three-ill₁, three-ill₂, three-ill₃, three-whole}
+use Rattle.frames.proofs.numbers_at.Statement.{statement}
+use Rattle.frames.proofs.numbers_at.Tie as tie
 
 mul-line-at : tie.Need-mul-line-at
 mul-line-at c = search needs

@@ -1,8 +1,8 @@
 -- `frames::hex` meets its contract.
 use borrow.Author.Needs.{needs}
-use Rattle.text.proofs.FrameLaws.{digit-low, digit-high}
-use Rattle.text.proofs.frames.hex.Statement.{statement}
-use Rattle.text.proofs.frames.hex.Tie as tie
+use Rattle.frames.proofs.FrameLaws.{digit-low, digit-high}
+use Rattle.frames.proofs.hex.Statement.{statement}
+use Rattle.frames.proofs.hex.Tie as tie
 
 cast-low : tie.Need-cast-low
 cast-low c = search needs

@@ -4,9 +4,9 @@ use native.Mathlib.Omega.{arith}
 use borrow.Author.Needs.{needs}
 use mir.Syntax.{w16}
 use mir.ValLaws.{toZ-ofZ}
-use Rattle.text.proofs.FrameLaws.{signed-low, signed-high}
-use Rattle.text.proofs.frames.signed.Statement.{statement}
-use Rattle.text.proofs.frames.signed.Tie as tie
+use Rattle.frames.proofs.FrameLaws.{signed-low, signed-high}
+use Rattle.frames.proofs.signed.Statement.{statement}
+use Rattle.frames.proofs.signed.Tie as tie
 
 returns : tie.Need-returns
 returns c = toZ-ofZ w16 _ (record { sfits = c .lower .ok }) ∙ c .lower .ensures ∙ signed-low (c .before .before .args .n) (omega arith)

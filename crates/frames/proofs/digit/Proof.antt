@@ -1,9 +1,9 @@
 -- `frames::digit` meets its contract: each way out is one stretch of the bytes.
 use native.Mathlib.Omega.{arith}
 use borrow.Author.Needs.{needs}
-use Rattle.text.proofs.FrameLaws.{value-under, value-lower, value-between, value-upper, value-over}
-use Rattle.text.proofs.frames.digit.Statement.{statement}
-use Rattle.text.proofs.frames.digit.Tie as tie
+use Rattle.frames.proofs.FrameLaws.{value-under, value-lower, value-between, value-upper, value-over}
+use Rattle.frames.proofs.digit.Statement.{statement}
+use Rattle.frames.proofs.digit.Tie as tie
 
 returns : tie.Need-returns
 returns c = value-under (c .before .args .b) (c .if1 .taken)

@@ -18,10 +18,10 @@ use mir.Val.{SFits}
 use Rattle.codes.specs.Lift.{lifted, lowered}
 use Rattle.codes.proofs.Shift.{down-not, down-below}
 use Rattle.codes.proofs.Tests.{and-both}
-use Rattle.text.specs.declared.frames.One.{One}
-use Rattle.text.specs.declared.frames.One.the-variants.{Ill, Number}
-use Rattle.text.specs.declared.frames.Three.the-variants.{Ill as Ill³, Numbers}
-use Rattle.text.specs.Frames.{zero, lineEnd, byteAt, digitValue, fourOf, fourAt, lineAt, together, oneAt, threeAt, signed, word, digitOf}
+use Rattle.frames.specs.declared.One.{One}
+use Rattle.frames.specs.declared.One.the-variants.{Ill, Number}
+use Rattle.frames.specs.declared.Three.the-variants.{Ill as Ill³, Numbers}
+use Rattle.frames.specs.Frames.{zero, lineEnd, byteAt, digitValue, fourOf, fourAt, lineAt, together, oneAt, threeAt, signed, word, digitOf}
 
 -- ---- digits
 

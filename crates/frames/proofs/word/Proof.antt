@@ -5,9 +5,9 @@ use borrow.Author.Needs.{needs}
 use mir.Syntax.{w16}
 use mir.ValLaws.{toZ-ofZ}
 use Rattle.codes.specs.Lift.{lifted}
-use Rattle.text.proofs.FrameLaws.{word-low, word-high}
-use Rattle.text.proofs.frames.word.Statement.{statement}
-use Rattle.text.proofs.frames.word.Tie as tie
+use Rattle.frames.proofs.FrameLaws.{word-low, word-high}
+use Rattle.frames.proofs.word.Statement.{statement}
+use Rattle.frames.proofs.word.Tie as tie
 
 lift-requires : tie.Need-lift-requires
 lift-requires c κs = search needs

@@ -1,8 +1,8 @@
 -- `frames::four` meets its contract: the four digits, by the first that is none.
 use borrow.Author.Needs.{needs}
-use Rattle.text.proofs.FrameLaws.{four-ill₁, four-ill₂, four-ill₃, four-ill₄, four-whole}
-use Rattle.text.proofs.frames.four.Statement.{statement}
-use Rattle.text.proofs.frames.four.Tie as tie
+use Rattle.frames.proofs.FrameLaws.{four-ill₁, four-ill₂, four-ill₃, four-ill₄, four-whole}
+use Rattle.frames.proofs.four.Statement.{statement}
+use Rattle.frames.proofs.four.Tie as tie
 
 shared-slice-read-digit : tie.Need-shared-slice-read-digit
 shared-slice-read-digit c = search needs

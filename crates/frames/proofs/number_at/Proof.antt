@@ -5,10 +5,10 @@ use native.Mathlib.Omega.{arith}
 use borrow.Author.Needs.{needs}
 use borrow.Author.Tests.{not-true, not-false}
 use denote.Ref.{now}
-use Rattle.text.specs.Frames.{lineAt}
-use Rattle.text.proofs.FrameLaws.{line-long, one-ill, one-four}
-use Rattle.text.proofs.frames.number_at.Statement.{statement}
-use Rattle.text.proofs.frames.number_at.Tie as tie
+use Rattle.frames.specs.Frames.{lineAt}
+use Rattle.frames.proofs.FrameLaws.{line-long, one-ill, one-four}
+use Rattle.frames.proofs.number_at.Statement.{statement}
+use Rattle.frames.proofs.number_at.Tie as tie
 
 line-at-requires : tie.Need-line-at-requires
 line-at-requires c κs = search needs

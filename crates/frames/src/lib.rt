@@ -2,8 +2,8 @@
 ghost use mathlib.Core.Path.{_≡_};
 ghost use Prim.Native.Nat.{_+_, _%_, _≤_, _<_};
 ghost use lib.ListN.{length};
-ghost use Rattle.text.specs.Frames.{digitValue, fourAt, lineAt, oneAt, threeAt, digitOf};
-ghost use Rattle.text.specs.Frames.{signed as Frames·signed, word as Frames·word};
+ghost use Rattle.frames.specs.Frames.{digitValue, fourAt, lineAt, oneAt, threeAt, digitOf};
+ghost use Rattle.frames.specs.Frames.{signed as Frames·signed, word as Frames·word};
 
 // The digit 0, with which every tag begins, and the last of the figures.
 pub const ZERO: u8 = b'0';

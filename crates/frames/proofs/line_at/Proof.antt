@@ -1,9 +1,9 @@
 -- `frames::line_at` meets its contract: each way out has seen enough of the line.
 use native.Mathlib.Omega.{arith}
 use borrow.Author.Needs.{needs}
-use Rattle.text.proofs.FrameLaws.{line-past, line-short, line-no-zero, line-other, line-ends}
-use Rattle.text.proofs.frames.line_at.Statement.{statement}
-use Rattle.text.proofs.frames.line_at.Tie as tie
+use Rattle.frames.proofs.FrameLaws.{line-past, line-short, line-no-zero, line-other, line-ends}
+use Rattle.frames.proofs.line_at.Statement.{statement}
+use Rattle.frames.proofs.line_at.Tie as tie
 
 returns : tie.Need-returns
 returns c = line-past _ _ _ _ (c .if1 .taken)

@@ -14,10 +14,10 @@ use Prim.Native.Nat.{ℕ, _+_, _-_, _*_, _/_, _%_}
 use lib.Dec.{ltb, leb, eqb}
 use lib.IntN.{ℤ, pos, negsuc, subℕ}
 use lib.ListN.{length, getD}
-use Rattle.text.specs.declared.frames.One.{One}
-use Rattle.text.specs.declared.frames.One.the-variants.{Ill, Number}
-use Rattle.text.specs.declared.frames.Three.{Three}
-use Rattle.text.specs.declared.frames.Three.the-variants.{Ill as Ill³, Numbers}
+use Rattle.frames.specs.declared.One.{One}
+use Rattle.frames.specs.declared.One.the-variants.{Ill, Number}
+use Rattle.frames.specs.declared.Three.{Three}
+use Rattle.frames.specs.declared.Three.the-variants.{Ill as Ill³, Numbers}
 
 abbrev pub zero : ℕ
 zero = 48
