@@ -5,6 +5,7 @@
 --   join-settled     two outcomes that the promise allows are equal
 -- Assumes nothing.
 use mathlib.Core.Path.{_≡_, refl, sym, _∙_, ap, ap₂, subst, subst₂}
+use mathlib.Core.Logic.{inl, inr}
 use mathlib.Core.Bool.{Bool, true, false, not, _&&_, _||_, cond, and-true, false≢true}
 use mathlib.Core.List.{List, [], _∷_, _++_, map}
 use mathlib.Core.Option.{Option, none, some}
@@ -16,6 +17,7 @@ use lib.IntN.{ℤ}
 use lib.ListN.{length, take, drop, length-map, length-append}
 use lib.Seq.{length-take-le, take-append-le}
 use borrow.Author.Tests.{le-leb, lt-leb, leb-true, leb-false, eqb-true, eqb-false, ne-eqb}
+use types.Run.{OneOf}
 use Rattle.meaning.specs.Numbers.{Cell, Corner, cell, number, isCorner}
 use Rattle.meaning.specs.Counting.{All}
 use Rattle.meaning.specs.Lists.{vertices, numbers, permitted, mostVertices, Valid}
@@ -303,6 +305,52 @@ whole-room l before most e = (
   ap (λ t. cond t (Done (length l)) NoRoom) (as-fits l (length before) most e),
   ap (λ t. cond t (numbers l ++ drop (3 * length l) before) before) (as-fits l (length before) most e),
 )
+
+-- ---- first in small room
+
+clash : (n : ℕ) → NoRoom ≡ Done n → ⊥
+clash n e = let z : _≡_ {A = ℕ} 1 0 = ap (λ r. tag r) e in omega arith
+  where
+    tag : Joining → ℕ
+    tag (Done k) = 0
+    tag BadOperation = 1
+    tag (FirstRefused v) = 1
+    tag (SecondRefused v) = 1
+    tag NoRoom = 1
+
+-- an answer whose case is none of the first is not done
+pub not-done : (r : Joining) → OneOf (1 ∷ 2 ∷ 3 ∷ 4 ∷ []) (denote.Enum.Declared.tagOf Rattle.joins.proofs.Joining.the-type r) → (n : ℕ) → r ≡ Done n → ⊥
+not-done r h n e = never (subst (λ (q : Joining). OneOf (1 ∷ 2 ∷ 3 ∷ 4 ∷ []) (denote.Enum.Declared.tagOf Rattle.joins.proofs.Joining.the-type q)) e h)
+  where
+    never : OneOf (1 ∷ 2 ∷ 3 ∷ 4 ∷ []) 0 → ⊥
+    never (inl q) = omega arith
+    never (inr (inl q)) = omega arith
+    never (inr (inr (inl q))) = omega arith
+    never (inr (inr (inr q))) = omega arith
+
+module _ (l : List Corner) (few : ℕ) (before after : List ℤ) (left : after ≡ roomContents l few before) where
+  -- a list that fits in small room fits
+  pub few-done : few ≤ min mostVertices (length before / 3) → (n : ℕ) → Done n ≡ roomAnswer l few
+      → (Done n ≡ madeAnswer l (length before)) × (after ≡ madeContents l before)
+  few-done room n e = go (leb (length l) few) refl
+    where
+      go : (t : Bool) → leb (length l) few ≡ t → (Done n ≡ madeAnswer l (length before)) × (after ≡ madeContents l before)
+      go true f =
+          let w = whole-room l before (min mostVertices (length before / 3)) refl in
+          let g : leb (length l) (min mostVertices (length before / 3)) ≡ true =
+          le-leb (length l) (min mostVertices (length before / 3)) (omega (arith, leb-true (length l) few f)) in (
+            e ∙ ap (λ t. cond t (Done (length l)) NoRoom) (f ∙ sym g) ∙ w .0,
+            left ∙ ap (λ t. cond t (numbers l ++ drop (3 * length l) before) before) (f ∙ sym g) ∙ w .1,
+          )
+      go false f = absurd (clash n (sym (ap (λ t. cond t (Done (length l)) NoRoom) f) ∙ sym e))
+
+  -- a list that does not fit there leaves all as it was
+  pub few-kept : (r : Joining) → ((n : ℕ) → r ≡ Done n → ⊥) → r ≡ roomAnswer l few → after ≡ before
+  few-kept r not e = go (leb (length l) few) refl
+    where
+      go : (t : Bool) → leb (length l) few ≡ t → after ≡ before
+      go true f = absurd (not (length l) (e ∙ ap (λ t. cond t (Done (length l)) NoRoom) f))
+      go false f = left ∙ ap (λ t. cond t (numbers l ++ drop (3 * length l) before) before) f
 
 pub outer-room : {n : ℕ} {ka kb kr sa sb sc sn ta tb tc tn room a b out : List ℕ} → Working n ka kb kr sa sb sc sn ta tb tc tn room → length a ≤ n → length b ≤ n → length out ≤ n → Roomy a b out sa sb sc sn room
 outer-room w ha hb ho =

@@ -5,6 +5,7 @@
 --   joinContents           what the lent result holds at exit: the list at its front where the call is done, else what it held
 --   JoinMade               the promise: both
 --   joinValues             document 01's number, operand, place and count of each answer
+--   Made, InRoom           inner: what an engine leaves, of two valid lists; the same where there is room for a given number of vertices
 use mathlib.Core.Path.{_≡_}
 use mathlib.Core.Bool.{Bool, _&&_, cond}
 use mathlib.Core.List.{List, _++_}
@@ -41,6 +42,15 @@ roomAnswer l most = cond (leb (length l) most) (Done (length l)) NoRoom
 
 abbrev pub roomContents : List Corner → ℕ → List ℤ → List ℤ
 roomContents l most before = cond (leb (length l) most) (numbers l ++ drop (3 * length l) before) before
+
+-- inner: what the engines leave, of two valid lists and an operation's number
+abbrev pub Made : ℕ → List ℤ → List ℤ → List ℤ → Joining → List ℤ → Type 0
+Made op a b before r after =
+    (o : Operation) → operation op ≡ some o → (r ≡ madeAnswer (joinedList o a b) (length before)) × (after ≡ madeContents (joinedList o a b) before)
+
+abbrev pub InRoom : ℕ → List ℤ → List ℤ → ℕ → List ℤ → Joining → List ℤ → Type 0
+InRoom op a b most before r after =
+    (o : Operation) → operation op ≡ some o → (r ≡ roomAnswer (joinedList o a b) most) × (after ≡ roomContents (joinedList o a b) most before)
 
 abbrev pub answerBy : Option Operation → List ℤ → List ℤ → ℕ → Joining
 answerBy none a b room = BadOperation

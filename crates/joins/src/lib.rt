@@ -8,7 +8,7 @@ ghost use lib.ListN.{length};
 ghost use Rattle.meaning.specs.Lists.{vertices, mostVertices, Valid};
 ghost use Rattle.meaning.specs.Operations.{Operation, operation, exclusive};
 ghost use Rattle.meaning.specs.Verdicts.{verdict, passes};
-ghost use Rattle.joins.specs.Join.{joinedList, madeAnswer, madeContents, roomAnswer, roomContents, JoinMade};
+ghost use Rattle.joins.specs.Join.{joinedList, madeAnswer, madeContents, Made, InRoom, JoinMade};
 ghost use Rattle.joins.specs.Room.{Working};
 use meaning::MOST_VERTICES;
 use meaning::Verdict;
@@ -35,7 +35,12 @@ const UNION: u32 = 1;
 
 const EXCLUSIVE: u32 = 4;
 
-// Room for a merge of two sections.
+// The most vertices for which the working arrays are small ones.
+const FEW: usize = 32;
+
+// Room for a merge of two sections, for few vertices and for as many as a list may have.
+const FEW_ROOM: usize = 2 * FEW;
+
 const ROOM: usize = 2 * MOST_VERTICES;
 
 // How many vertices a result of so many numbers has room for, at most as many as a list may have.
@@ -74,7 +79,7 @@ fn join_in(
     requires { ⌜ Working (length (now kr)) (now ka) (now kb) (now kr) (now sa) (now sb) (now sc) (now sn) (now ta) (now tb) (now tc) (now tn) (now room) ⌝ }
     requires { ⌜ (length (vertices (now a)) ≤ length (now kr)) × (length (vertices (now b)) ≤ length (now kr)) ⌝ }
     requires { ⌜ (most ≤ length (now kr)) × (3 * most ≤ length (now out)) ⌝ }
-    ensures { λ r. ⌜ ((o : Operation) → operation op ≡ some o → (r ≡ roomAnswer (joinedList o (now (a .entry)) (now (b .entry))) most) × (now (out .exit) ≡ roomContents (joinedList o (now (a .entry)) (now (b .entry))) most (now (out .entry)))) ⌝ }
+    ensures { λ r. ⌜ InRoom op (now (a .entry)) (now (b .entry)) most (now (out .entry)) r (now (out .exit)) ⌝ }
 {
     let na = keys::read(a, ka);
     let nb = keys::read(b, kb);
@@ -100,10 +105,10 @@ fn join_in(
     Joining::Done(n)
 }
 
-// Joins two valid lists by the sweep.
-fn join_by_sweep(op: u32, a: &[i16], b: &[i16], out: &mut [i16]) -> Joining
+// Joins two valid lists by the sweep, in room of its own for as many vertices as a list may have.
+fn join_many(op: u32, a: &[i16], b: &[i16], out: &mut [i16]) -> Joining
     requires { ⌜ Valid (vertices (now a)) × Valid (vertices (now b)) ⌝ }
-    ensures { λ r. ⌜ ((o : Operation) → operation op ≡ some o → (r ≡ madeAnswer (joinedList o (now (a .entry)) (now (b .entry))) (length (now (out .entry)))) × (now (out .exit) ≡ madeContents (joinedList o (now (a .entry)) (now (b .entry))) (now (out .entry)))) ⌝ }
+    ensures { λ r. ⌜ Made op (now (a .entry)) (now (b .entry)) (now (out .entry)) r (now (out .exit)) ⌝ }
 {
     let mut ka = [0u32; MOST_VERTICES];
     let mut kb = [0u32; MOST_VERTICES];
@@ -137,6 +142,76 @@ fn join_by_sweep(op: u32, a: &[i16], b: &[i16], out: &mut [i16]) -> Joining
         &mut tn,
         &mut room,
     )
+}
+
+// Joins two valid lists of few vertices by the sweep, where there is room for few vertices of the result, in small room of its own.
+fn join_few(op: u32, a: &[i16], b: &[i16], out: &mut [i16]) -> Joining
+    requires { ⌜ Valid (vertices (now a)) × Valid (vertices (now b)) ⌝ }
+    requires { ⌜ (length (vertices (now a)) ≤ 32) × (length (vertices (now b)) ≤ 32) ⌝ }
+    requires { ⌜ 96 ≤ length (now out) ⌝ }
+    ensures { λ r. ⌜ InRoom op (now (a .entry)) (now (b .entry)) 32 (now (out .entry)) r (now (out .exit)) ⌝ }
+{
+    let mut ka = [0u32; FEW];
+    let mut kb = [0u32; FEW];
+    let mut kr = [0u32; FEW];
+    let mut sa = [0u32; FEW];
+    let mut sb = [0u32; FEW];
+    let mut sc = [0u32; FEW];
+    let mut sn = [0u32; FEW];
+    let mut ta = [0u32; FEW];
+    let mut tb = [0u32; FEW];
+    let mut tc = [0u32; FEW];
+    let mut tn = [0u32; FEW];
+    let mut room = [0u32; FEW_ROOM];
+    join_in(
+        op,
+        a,
+        b,
+        FEW,
+        out,
+        &mut ka,
+        &mut kb,
+        &mut kr,
+        &mut sa,
+        &mut sb,
+        &mut sc,
+        &mut sn,
+        &mut ta,
+        &mut tb,
+        &mut tc,
+        &mut tn,
+        &mut room,
+    )
+}
+
+// The same in small room where the result fits there, else in the large one.
+fn join_small(op: u32, a: &[i16], b: &[i16], out: &mut [i16]) -> Joining
+    requires { ⌜ Valid (vertices (now a)) × Valid (vertices (now b)) ⌝ }
+    requires { ⌜ (length (vertices (now a)) ≤ 32) × (length (vertices (now b)) ≤ 32) ⌝ }
+    requires { ⌜ 96 ≤ length (now out) ⌝ }
+    ensures { λ r. ⌜ Made op (now (a .entry)) (now (b .entry)) (now (out .entry)) r (now (out .exit)) ⌝ }
+{
+    let Joining::Done(count) = join_few(op, a, b, out) else {
+        return join_many(op, a, b, out);
+    };
+    Joining::Done(count)
+}
+
+// Joins two valid lists by the sweep.
+fn join_by_sweep(op: u32, a: &[i16], b: &[i16], out: &mut [i16]) -> Joining
+    requires { ⌜ Valid (vertices (now a)) × Valid (vertices (now b)) ⌝ }
+    ensures { λ r. ⌜ Made op (now (a .entry)) (now (b .entry)) (now (out .entry)) r (now (out .exit)) ⌝ }
+{
+    if NUMBERS * FEW < a.len() {
+        return join_many(op, a, b, out);
+    }
+    if NUMBERS * FEW < b.len() {
+        return join_many(op, a, b, out);
+    }
+    if out.len() < NUMBERS * FEW {
+        return join_many(op, a, b, out);
+    }
+    join_small(op, a, b, out)
 }
 
 // Joins two valid lists by exclusive or: one merge.

@@ -49,10 +49,16 @@ valid : (c : tie.Else1) → passes (c .before .before .check .result) ≡ true
 valid c = sym (c .before .is-valid .ensures) ∙ not-false _ (c .if1 .left)
 
 returns-2 : tie.Need-returns-2
-returns-2 c = cell-said _ _ _ true (c .before .before .before .before .before .before .before .check .ensures) (valid (c .before .before .before .before .before)) (sym (c .if2 .taken) ∙ permitted-is (c .before))
+returns-2 c =
+    let earlier = c .before .before .before .before .before in
+    let at-check = earlier .before .before in
+    cell-said _ _ _ true (at-check .check .ensures) (valid earlier) (sym (c .if2 .taken) ∙ permitted-is (c .before))
 
 returns-3 : tie.Need-returns-3
-returns-3 c = cell-said _ _ _ false (c .before .before .before .before .before .before .before .check .ensures) (valid (c .before .before .before .before .before)) (sym (c .if2 .left) ∙ permitted-is (c .before))
+returns-3 c =
+    let earlier = c .before .before .before .before .before in
+    let at-check = earlier .before .before in
+    cell-said _ _ _ false (at-check .check .ensures) (valid earlier) (sym (c .if2 .left) ∙ permitted-is (c .before))
 
 pub cell-permitted-spec : {M : Type 1} → statement M
 cell-permitted-spec =

@@ -17,7 +17,9 @@ use Rattle.cuts.proofs.merge_halves.Tie as tie
 
 -- what the merge left in front of work
 left : (c : tie.After-merge) → Placed (merged (now (c .before .before .before .before .before .args .whole)) (now (c .before .before .before .before .before .args .upper))) (now (c .before .before .before .before .before .args .work)) (c .merge .last .1 .1 .1 .0) (c .merge .result)
-left c = merged-placed (now (c .before .before .before .before .before .args .whole)) (now (c .before .before .before .before .before .args .upper)) (now (c .before .before .before .before .before .args .work)) (c .merge .ensures .0) (c .merge .ensures .1)
+left c =
+    let start = c .before .before .before .before .before in
+    merged-placed (now (start .args .whole)) (now (start .args .upper)) (now (start .args .work)) (c .merge .ensures .0) (c .merge .ensures .1)
 
 merge-requires : tie.Need-merge-requires
 merge-requires c κs = (c .before .before .before .before .pre .1 .1, none-below (now (c .before .before .before .before .args .upper)))
@@ -30,8 +32,12 @@ slice-aggregate-put-halves c = sym (length-take-le _ _ (placed-few (left (c .bef
 
 put-halves-requires : tie.Need-put-halves-requires
 put-halves-requires c κs =
-    let s = c .before .before .before .before .before .before .before .before .before .before in
-    (subst (All KeyOk) (sym (placed-front (left (c .before .before .before .before .before)) .contents)) (all-merged KeyOk (now (s .args .whole)) (now (s .args .upper)) (s .pre .0) (s .pre .1 .0)), s .pre .1 .0)
+    let earlier = c .before .before .before .before .before in
+    let s = earlier .before .before .before .before .before in (
+      subst (All KeyOk) (sym (placed-front (left earlier) .contents))
+          (all-merged KeyOk (now (s .args .whole)) (now (s .args .upper)) (s .pre .0) (s .pre .1 .0)),
+      s .pre .1 .0,
+    )
 
 same-length : tie.Need-same-length
 same-length c = search needs
@@ -44,9 +50,12 @@ same-length-3 c = search needs
 
 returns : tie.Need-returns
 returns c =
-    let s = c .before .before .before .before .before .before .before .before .before .before .before .before .before in
-    ap (λ l. placedHalves (map ofKey l) (map ofKey (now (s .args .upper))) (now (s .args .low)) (now (s .args .high))) (sym (placed-front (left (c .before .before .before .before .before .before .before .before)) .contents)) ∙
-    c .before .before .put-halves .ensures
+    let at-put-halves = c .before .before in
+    let earlier = at-put-halves .before .before .before .before .before .before in
+    let s = earlier .before .before .before .before .before in
+    ap (λ l. placedHalves (map ofKey l) (map ofKey (now (s .args .upper))) (now (s .args .low)) (now (s .args .high)))
+    (sym (placed-front (left earlier) .contents)) ∙
+    at-put-halves .put-halves .ensures
 
 pub merge-halves-spec : {M : Type 1} → statement M
 merge-halves-spec =

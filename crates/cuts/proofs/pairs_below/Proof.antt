@@ -47,14 +47,20 @@ loop-less c = search needs
 
 loop-again : tie.Need-loop-again Inv-loop μ-loop
 loop-again c =
+    let at-part-on = c .before .before in
+    let turn = at-part-on .before .before .before in
+    let start = turn .before .before .before in
     rw (c .pair-on .ensures)
-    (takes-below (axisAt (c .before .before .before .before .before .before .before .before .args .axis)) (c .before .before .before .before .before .before .before .before .args .cut) _ _ _ _ _ (c .before .before .before .before .before .loop .inv) (omega arith) (omega (arith, c .before .before .part-on .ensures)))
+    (takes-below (axisAt (start .args .axis)) (start .args .cut) _ _ _ _ _ (turn .loop .inv) (omega arith) (omega (arith, at-part-on .part-on .ensures)))
 
 loop-less-2 : tie.Need-loop-less-2 Inv-loop μ-loop
 loop-less-2 c = search needs
 
 loop-again-2 : tie.Need-loop-again-2 Inv-loop μ-loop
-loop-again-2 c = leaves-above (axisAt (c .before .before .before .before .before .before .before .args .axis)) (c .before .before .before .before .before .before .before .args .cut) _ _ _ _ _ (c .before .before .before .before .loop .inv) (omega arith) (omega (arith, c .before .part-on .ensures))
+loop-again-2 c =
+    let turn = c .before .before .before .before in
+    let start = turn .before .before .before in
+    leaves-above (axisAt (start .args .axis)) (start .args .cut) _ _ _ _ _ (turn .loop .inv) (omega arith) (omega (arith, c .before .part-on .ensures))
 
 same-length : tie.Need-same-length Inv-loop μ-loop
 same-length c = search needs

@@ -26,14 +26,25 @@ has-room-requires-2 c κs = search needs
 
 returns-2 : tie.Need-returns-2
 returns-2 c =
-    let s = c .before .before .before .before .before .before in
-    high-no-room (now (s .args .lower)) (now (s .args .upper)) (now (s .args .low)) (now (s .args .high)) (said-yes (c .before .before .before .has-room .ensures) (c .before .before .if1 .left)) (said-no (c .before .has-room2 .ensures) (c .if2 .taken))
+    let at-if1 = c .before .before in
+    let at-has-room = at-if1 .before in
+    let s = at-has-room .before .before .before in
+    high-no-room (now (s .args .lower)) (now (s .args .upper)) (now (s .args .low)) (now (s .args .high))
+    (said-yes (at-has-room .has-room .ensures) (at-if1 .if1 .left)) (said-no (c .before .has-room2 .ensures) (c .if2 .taken))
 
 write-requires : tie.Need-write-requires
-write-requires c κs = (c .before .before .before .before .before .before .before .pre .0, fits-room _ (length (now (c .before .before .before .before .before .before .before .args .lower))) _ (said-yes (c .before .before .before .before .has-room .ensures) (c .before .before .before .if1 .left)))
+write-requires c κs =
+    let at-if1 = c .before .before .before in
+    let at-has-room = at-if1 .before in
+    let start = at-has-room .before .before .before in
+    (start .pre .0, fits-room _ (length (now (start .args .lower))) _ (said-yes (at-has-room .has-room .ensures) (at-if1 .if1 .left)))
 
 write-requires-2 : tie.Need-write-requires-2
-write-requires-2 c κs = (c .before .before .before .before .before .before .before .before .before .before .pre .1, fits-room _ (length (now (c .before .before .before .before .before .before .before .before .before .before .args .upper))) _ (said-yes (c .before .before .before .before .before .has-room2 .ensures) (c .before .before .before .before .if2 .left)))
+write-requires-2 c κs =
+    let at-if2 = c .before .before .before .before in
+    let at-has-room2 = at-if2 .before in
+    let start = at-has-room2 .before .before .before .before .before in
+    (start .pre .1, fits-room _ (length (now (start .args .upper))) _ (said-yes (at-has-room2 .has-room2 .ensures) (at-if2 .if2 .left)))
 
 same-length : tie.Need-same-length
 same-length c = search needs
@@ -43,9 +54,15 @@ same-length-2 c = search needs
 
 returns-3 : tie.Need-returns-3
 returns-3 c =
-    let s = c .before .before .before .before .before .before .before .before .before .before .before .before in
+    let at-write = c .before .before .before .before in
+    let at-if2 = at-write .before .before in
+    let at-has-room2 = at-if2 .before in
+    let at-if1 = at-has-room2 .before in
+    let at-has-room = at-if1 .before in
+    let s = at-has-room .before .before .before in
     halves-done (now (s .args .lower)) (now (s .args .upper)) (now (s .args .low)) (now (s .args .high))
-    (said-yes (c .before .before .before .before .before .before .before .before .before .has-room .ensures) (c .before .before .before .before .before .before .before .before .if1 .left)) _ _ (said-yes (c .before .before .before .before .before .before .before .has-room2 .ensures) (c .before .before .before .before .before .before .if2 .left)) (c .before .before .before .before .write .ensures) (c .before .write2 .ensures)
+    (said-yes (at-has-room .has-room .ensures) (at-if1 .if1 .left)) _ _ (said-yes (at-has-room2 .has-room2 .ensures) (at-if2 .if2 .left))
+    (at-write .write .ensures) (c .before .write2 .ensures)
 
 pub put-halves-spec : {M : Type 1} → statement M
 put-halves-spec =

@@ -29,8 +29,10 @@ same-length c = search needs
 
 returns-2 : tie.Need-returns-2
 returns-2 c =
-    let s = c .before .before .before .before .before .before in
-    pairs-done (now (s .args .keys)) (now (s .args .out)) _ (said-yes (c .before .before .before .before .has-room .ensures) (c .before .before .before .if1 .left)) (c .before .write-pairs .ensures)
+    let at-if1 = c .before .before .before in
+    let at-has-room = at-if1 .before in
+    let s = at-has-room .before .before in
+    pairs-done (now (s .args .keys)) (now (s .args .out)) _ (said-yes (at-has-room .has-room .ensures) (at-if1 .if1 .left)) (c .before .write-pairs .ensures)
 
 pub put-pairs-spec : {M : Type 1} → statement M
 put-pairs-spec =

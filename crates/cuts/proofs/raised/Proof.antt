@@ -12,7 +12,9 @@ part-on-requires : tie.Need-part-on-requires
 part-on-requires c κs = search needs
 
 by-planes : (c : tie.Then2) → c .before .before .before .args .key + (c .before .before .before .args .at - c .before .before .part-on .result) * 2099200 ≡ raisedKey (axisAt (c .before .before .before .args .axis)) (c .before .before .before .args .at) (c .before .before .before .args .key)
-by-planes c = raised-by _ _ (axis-0 _ (c .if2 .taken)) (c .before .before .part-on .ensures)
+by-planes c =
+    let at-part-on = c .before .before in
+    raised-by _ _ (axis-0 _ (c .if2 .taken)) (at-part-on .part-on .ensures)
 
 returns : tie.Need-returns
 returns c = raised-same (axisAt (c .before .before .args .axis)) _ _ (omega (arith, c .before .part-on .ensures))
@@ -24,7 +26,11 @@ mul-result : tie.Need-mul-result
 mul-result c = search needs
 
 add-result : tie.Need-add-result
-add-result c = record { fits = omega (arith, by-planes c, raised-fits _ _ (c .before .before .before .pre .1) (c .before .before .before .pre .0) (axisAt (c .before .before .before .args .axis))) }
+add-result c = record {
+  fits =
+      let start = c .before .before .before in
+      omega (arith, by-planes c, raised-fits _ _ (start .pre .1) (start .pre .0) (axisAt (start .args .axis)));
+}
 
 returns-2 : tie.Need-returns-2
 returns-2 c = by-planes c
@@ -49,7 +55,6 @@ add-result-3 c = search needs
 
 returns-4 : tie.Need-returns-4
 returns-4 c =
-    let s = c .before .before .before .before in
     once _ _ ∙ raised-by _ _ (axis-2 _ (c .before .if2 .left) (c .if3 .left)) (c .before .before .before .part-on .ensures)
 
 pub raised-spec : {M : Type 1} → statement M

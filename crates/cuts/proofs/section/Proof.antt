@@ -38,13 +38,17 @@ returns c =
 
 returns-2 : tie.Need-returns-2
 returns-2 c =
-    let s = c .before .before .before in
-    section-no-code (now (s .args .list)) (s .args .axis) (s .args .code) (now (s .args .out)) (omega arith) (code-low (s .args .code) _ (crossed (c .before .before)) (omega arith))
+    let earlier = c .before .before in
+    let s = earlier .before in
+    section-no-code (now (s .args .list)) (s .args .axis) (s .args .code) (now (s .args .out)) (omega arith)
+    (code-low (s .args .code) _ (crossed earlier) (omega arith))
 
 returns-3 : tie.Need-returns-3
 returns-3 c =
-    let s = c .before .before .before .before in
-    section-no-code (now (s .args .list)) (s .args .axis) (s .args .code) (now (s .args .out)) (omega arith) (code-high (s .args .code) _ (crossed (c .before .before .before)) (omega arith))
+    let earlier = c .before .before .before in
+    let s = earlier .before in
+    section-no-code (now (s .args .list)) (s .args .axis) (s .args .code) (now (s .args .out)) (omega arith)
+    (code-high (s .args .code) _ (crossed earlier) (omega arith))
 
 check-requires : tie.Need-check-requires
 check-requires c κs = search needs
@@ -63,17 +67,22 @@ same-length c = search needs
 
 returns-4 : tie.Need-returns-4
 returns-4 c =
-    let s = c .before .before .before .before .before .before .before .before .before .before in
-    let u = crossed (c .before .before .before .before .before .before .before .before .before) in
-    section-made (now (s .args .list)) (s .args .axis) (s .args .code) (now (s .args .out)) (omega arith) (code-in (s .args .code) _ u (omega arith) (omega arith)) (told (c .before .before .before)) (c .before .section-of .result) (c .before .section-of .last .1 .1 .1 .0)
+    let earlier = c .before .before .before in
+    let earlier-2 = earlier .before .before .before .before .before .before in
+    let s = earlier-2 .before in
+    let u = crossed earlier-2 in
+    section-made (now (s .args .list)) (s .args .axis) (s .args .code) (now (s .args .out)) (omega arith)
+    (code-in (s .args .code) _ u (omega arith) (omega arith)) (told earlier) (c .before .section-of .result) (c .before .section-of .last .1 .1 .1 .0)
     (subst (λ (k : ℤ). sectionOutcome (axisAt (s .args .axis)) k (now (s .args .list)) (now (s .args .out)) ≡ sectionSays (c .before .section-of .result) (c .before .section-of .last .1 .1 .1 .0))
     (number-back (s .args .code) _ u (omega arith) (omega arith)) (c .before .section-of .ensures))
 
 returns-5 : tie.Need-returns-5
 returns-5 c =
-    let s = c .before .before .before .before .before .before in
+    let earlier = c .before .before .before .before .before in
+    let s = earlier .before in
     let v = c .before .check in
-    section-refused (now (s .args .list)) (s .args .axis) (s .args .code) (now (s .args .out)) (omega arith) (code-in (s .args .code) _ (crossed (c .before .before .before .before .before)) (omega arith) (omega arith)) (v .result) (v .ensures) (refused-not (v .result) (c .match .keys2))
+    section-refused (now (s .args .list)) (s .args .axis) (s .args .code) (now (s .args .out)) (omega arith)
+    (code-in (s .args .code) _ (crossed earlier) (omega arith) (omega arith)) (v .result) (v .ensures) (refused-not (v .result) (c .match .keys2))
 
 pub section-spec : {M : Type 1} → statement M
 section-spec =

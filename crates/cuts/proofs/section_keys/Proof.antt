@@ -16,7 +16,9 @@ use Rattle.cuts.proofs.section_keys.Tie as tie
 
 -- what was read stands in front of work
 held : (c : tie.After-read) → take (c .read .result) (c .read .last .1 .0) ≡ map keyOf (vertices (now (c .before .before .before .before .args .list)))
-held c = placed-front (keys-placed (vertices (now (c .before .before .before .before .args .list))) (now (c .before .before .before .before .args .work)) (c .read .ensures .0) (c .read .ensures .1)) .contents
+held c =
+    let start = c .before .before .before .before in
+    placed-front (keys-placed (vertices (now (start .args .list))) (now (start .args .work)) (c .read .ensures .0) (c .read .ensures .1)) .contents
 
 read-requires : tie.Need-read-requires
 read-requires c κs = search needs
@@ -28,7 +30,10 @@ slice-aggregate-pairs-below : tie.Need-slice-aggregate-pairs-below
 slice-aggregate-pairs-below c = sym (length-take-le _ _ (omega arith))
 
 pairs-below-requires : tie.Need-pairs-below-requires
-pairs-below-requires c κs = keys-few (vertices (now (c .before .before .before .before .before .before .before .before .args .list))) _ (held (c .before .before .before .before)) (c .before .before .before .before .before .before .before .before .pre .1 .0)
+pairs-below-requires c κs =
+    let earlier = c .before .before .before .before in
+    let start = earlier .before .before .before .before in
+    keys-few (vertices (now (start .args .list))) _ (held earlier) (start .pre .1 .0)
 
 slice-relend-prefix-cancel : tie.Need-slice-relend-prefix-cancel
 slice-relend-prefix-cancel c = placed-few (c .before .before .pairs-below .ensures)
@@ -38,9 +43,16 @@ slice-aggregate-cancel c = sym (length-take-le _ _ (placed-few (c .before .befor
 
 cancel-requires : tie.Need-cancel-requires
 cancel-requires c κs =
-    let d = c .before .before .before .before in
-    let r = c .before .before .before .before .before .before .before .before .before .read in
-    omega (arith, below-few (axisAt (c .before .before .before .before .before .before .before .before .before .before .before .before .before .args .axis)) (c .before .before .before .before .before .before .before .before .before .before .before .before .before .args .cut) (take (r .result) (r .last .1 .0)) (d .pairs-below .ensures), length-take (r .result) (r .last .1 .0))
+    let earlier = c .before .before .before .before in
+    let at-read = earlier .before .before .before .before .before in
+    let start = at-read .before .before .before .before in
+    let d = earlier in
+    let r = at-read .read in
+    omega (
+      arith,
+      below-few (axisAt (start .args .axis)) (start .args .cut) (take (r .result) (r .last .1 .0)) (d .pairs-below .ensures),
+      length-take (r .result) (r .last .1 .0),
+    )
 
 same-length : tie.Need-same-length
 same-length c = search needs
@@ -50,8 +62,11 @@ same-length-2 c = search needs
 
 returns : tie.Need-returns
 returns c =
-    let s = c .before .before .before .before .before .before .before .before .before .before .before .before .before .before .before .before .before .before in
-    below-front (axisAt (s .args .axis)) (s .args .cut) (held (c .before .before .before .before .before .before .before .before .before .before .before .before .before .before)) (c .before .before .before .before .before .before .before .before .before .pairs-below .ensures) (c .before .before .before .before .cancel .ensures) _
+    let at-cancel = c .before .before .before .before in
+    let at-pairs-below = at-cancel .before .before .before .before .before in
+    let earlier = at-pairs-below .before .before .before .before .before in
+    let s = earlier .before .before .before .before in
+    below-front (axisAt (s .args .axis)) (s .args .cut) (held earlier) (at-pairs-below .pairs-below .ensures) (at-cancel .cancel .ensures) _
 
 pub section-keys-spec : {M : Type 1} → statement M
 section-keys-spec =

@@ -24,8 +24,10 @@ slice-aggregate-put-pairs c = sym (length-take-le _ _ (front-few (c .before .bef
 
 put-pairs-requires : tie.Need-put-pairs-requires
 put-pairs-requires c κs =
-    let s = c .before .before .before .before .before .before .before .before .before .before .before in
-    subst (All PairOk) (sym (c .before .before .before .before .before .before .section-keys .ensures .contents)) (section-ok (axisAt (s .args .axis)) (vertices (now (s .args .list))) (s .pre .0) (s .args .cut))
+    let at-section-keys = c .before .before .before .before .before .before in
+    let s = at-section-keys .before .before .before .before .before in
+    subst (All PairOk) (sym (at-section-keys .section-keys .ensures .contents))
+    (section-ok (axisAt (s .args .axis)) (vertices (now (s .args .list))) (s .pre .0) (s .args .cut))
 
 same-length : tie.Need-same-length
 same-length c = search needs
@@ -38,9 +40,13 @@ same-length-3 c = search needs
 
 returns : tie.Need-returns
 returns c =
-    let s = c .before .before .before .before .before .before .before .before .before .before .before .before .before in
+    let at-section-keys = c .before .before .before .before .before .before .before .before in
+    let s = at-section-keys .before .before .before .before .before in
     ap (λ ps. placedPairs ps (now (s .args .out)))
-    (sym (ap (map pairOfKey) (c .before .before .before .before .before .before .before .before .section-keys .ensures .contents) ∙ section-list (axisAt (s .args .axis)) (vertices (now (s .args .list))) (s .pre .0) (s .args .cut))) ∙
+    (sym
+    (ap (map pairOfKey) (at-section-keys .section-keys .ensures .contents) ∙ section-list (axisAt (s .args .axis)) (vertices (now (s .args .list)))
+    (s .pre .0) (s .args .cut)))
+    ∙
     c .before .put-pairs .ensures
 
 pub section-with-spec : {M : Type 1} → statement M

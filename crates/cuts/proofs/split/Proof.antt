@@ -38,13 +38,17 @@ returns c =
 
 returns-2 : tie.Need-returns-2
 returns-2 c =
-    let s = c .before .before .before in
-    split-no-number (now (s .args .list)) (s .args .axis) (s .args .at) (now (s .args .low)) (now (s .args .high)) (omega arith) (number-low (s .args .at) _ (crossed (c .before .before)) (omega arith))
+    let earlier = c .before .before in
+    let s = earlier .before in
+    split-no-number (now (s .args .list)) (s .args .axis) (s .args .at) (now (s .args .low)) (now (s .args .high)) (omega arith)
+    (number-low (s .args .at) _ (crossed earlier) (omega arith))
 
 returns-3 : tie.Need-returns-3
 returns-3 c =
-    let s = c .before .before .before .before in
-    split-no-number (now (s .args .list)) (s .args .axis) (s .args .at) (now (s .args .low)) (now (s .args .high)) (omega arith) (number-high (s .args .at) _ (crossed (c .before .before .before)) (omega arith))
+    let earlier = c .before .before .before in
+    let s = earlier .before in
+    split-no-number (now (s .args .list)) (s .args .axis) (s .args .at) (now (s .args .low)) (now (s .args .high)) (omega arith)
+    (number-high (s .args .at) _ (crossed earlier) (omega arith))
 
 check-requires : tie.Need-check-requires
 check-requires c κs = search needs
@@ -66,17 +70,24 @@ same-length-2 c = search needs
 
 returns-4 : tie.Need-returns-4
 returns-4 c =
-    let s = c .before .before .before .before .before .before .before .before .before .before .before .before in
-    let u = crossed (c .before .before .before .before .before .before .before .before .before .before .before) in
-    split-made (now (s .args .list)) (s .args .axis) (s .args .at) (now (s .args .low)) (now (s .args .high)) (omega arith) (number-in (s .args .at) _ u (omega arith) (omega arith)) (told (c .before .before .before .before .before)) (c .before .before .split-of .result) (c .before .before .split-of .last .1 .1 .1 .0) (c .before .before .split-of .last .1 .1 .1 .1 .0)
-    (subst (λ (k : ℤ). splitOutcome (axisAt (s .args .axis)) k (now (s .args .list)) (now (s .args .low)) (now (s .args .high)) ≡ splitSays (c .before .before .split-of .result) (c .before .before .split-of .last .1 .1 .1 .0) (c .before .before .split-of .last .1 .1 .1 .1 .0))
-    (number-back (s .args .at) _ u (omega arith) (omega arith)) (c .before .before .split-of .ensures))
+    let at-split-of = c .before .before in
+    let earlier = at-split-of .before .before .before in
+    let earlier-2 = earlier .before .before .before .before .before .before in
+    let s = earlier-2 .before in
+    let u = crossed earlier-2 in
+    split-made (now (s .args .list)) (s .args .axis) (s .args .at) (now (s .args .low)) (now (s .args .high)) (omega arith)
+    (number-in (s .args .at) _ u (omega arith) (omega arith)) (told earlier) (at-split-of .split-of .result) (at-split-of .split-of .last .1 .1 .1 .0)
+    (at-split-of .split-of .last .1 .1 .1 .1 .0)
+    (subst (λ (k : ℤ). splitOutcome (axisAt (s .args .axis)) k (now (s .args .list)) (now (s .args .low)) (now (s .args .high)) ≡ splitSays (at-split-of .split-of .result) (at-split-of .split-of .last .1 .1 .1 .0) (at-split-of .split-of .last .1 .1 .1 .1 .0))
+    (number-back (s .args .at) _ u (omega arith) (omega arith)) (at-split-of .split-of .ensures))
 
 returns-5 : tie.Need-returns-5
 returns-5 c =
-    let s = c .before .before .before .before .before .before in
+    let earlier = c .before .before .before .before .before in
+    let s = earlier .before in
     let v = c .before .check in
-    split-refused (now (s .args .list)) (s .args .axis) (s .args .at) (now (s .args .low)) (now (s .args .high)) (omega arith) (number-in (s .args .at) _ (crossed (c .before .before .before .before .before)) (omega arith) (omega arith)) (v .result) (v .ensures) (refused-not (v .result) (c .match .keys2))
+    split-refused (now (s .args .list)) (s .args .axis) (s .args .at) (now (s .args .low)) (now (s .args .high)) (omega arith)
+    (number-in (s .args .at) _ (crossed earlier) (omega arith) (omega arith)) (v .result) (v .ensures) (refused-not (v .result) (c .match .keys2))
 
 pub split-spec : {M : Type 1} → statement M
 split-spec =

@@ -22,10 +22,14 @@ use Rattle.cuts.proofs.split_with.Tie as tie
 
 -- the keys of the whole map stand in front of whole
 held : (c : tie.After-split-keys) → take (length (now (c .before .before .before .before .before .before .before .args .list)) / 3) (c .split-keys .last .1 .1 .1 .0) ≡ map keyOf (vertices (now (c .before .before .before .before .before .before .before .args .list)))
-held c = ap (λ k. take k (c .split-keys .last .1 .1 .1 .0)) (sym (length-vertices (now (c .before .before .before .before .before .before .before .args .list)))) ∙ c .split-keys .ensures .0 .contents
+held c =
+    let start = c .before .before .before .before .before .before .before in
+    ap (λ k. take k (c .split-keys .last .1 .1 .1 .0)) (sym (length-vertices (now (start .args .list)))) ∙ c .split-keys .ensures .0 .contents
 
 whole-few : (c : tie.After-split-keys) → length (now (c .before .before .before .before .before .before .before .args .list)) / 3 ≤ length (c .split-keys .last .1 .1 .1 .0)
-whole-few c = omega (arith, length-vertices (now (c .before .before .before .before .before .before .before .args .list)), front-few (c .split-keys .ensures .0))
+whole-few c =
+    let start = c .before .before .before .before .before .before .before in
+    omega (arith, length-vertices (now (start .args .list)), front-few (c .split-keys .ensures .0))
 
 split-keys-requires : tie.Need-split-keys-requires
 split-keys-requires c κs = let s = c .before .before .before .before .before .before in (s .pre .0, (s .pre .1 .0, (s .pre .1 .1 .0, (s .pre .1 .1 .1 .0, omega arith))))
@@ -71,15 +75,17 @@ same-length-5 c = search needs
 
 returns : tie.Need-returns
 returns c =
-    let s = c .before .before .before .before .before .before .before .before .before .before .before .before .before .before .before .before .before .before .before .before .before .before .before in
-    let d = c .before .before .before .before .before .before .before .before .before .before .before .before .before .before .before .before in
+    let at-merge-halves = c .before .before .before .before in
+    let earlier = at-merge-halves .before .before .before .before .before .before .before .before .before .before .before .before in
+    let s = earlier .before .before .before .before .before .before .before in
+    let d = earlier in
     let l = vertices (now (s .args .list)) in
     let axis = axisAt (s .args .axis) in
     let upper = d .split-keys .ensures .1 .contents in
     ap₂ (λ a b. placedHalves a b (now (s .args .low)) (now (s .args .high)))
     (sym (ap₂ (λ a b. map ofKey (merged a b)) (held d) upper ∙ lower-list axis l (s .pre .0) (s .args .at) (s .pre .1 .0)))
     (sym (ap (map ofKey) upper ∙ upper-list axis l (s .pre .0) (s .args .at) (s .pre .1 .0))) ∙
-    c .before .before .before .before .merge-halves .ensures
+    at-merge-halves .merge-halves .ensures
 
 pub split-with-spec : {M : Type 1} → statement M
 split-with-spec =

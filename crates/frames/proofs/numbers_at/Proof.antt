@@ -53,7 +53,8 @@ enum-told-2 c = search needs
 returns-3 : tie.Need-returns-3
 returns-3 c =
     let q = c .before .before in
-    three-ill₂ _ _ _ (there (q .before .before .before .before .before)) (q .before .before .before .before .four .ensures) (q .before .before .a .given .1) (q .four2 .ensures) (c .enum-told2 .given .1)
+    three-ill₂ _ _ _ (there (q .before .before .before .before .before)) (q .before .before .before .before .four .ensures) (q .before .before .a .given .1)
+    (q .four2 .ensures) (c .enum-told2 .given .1)
 
 add-four-3 : tie.Need-add-four-3
 add-four-3 c = omega (arith, line-long _ _ _ _ (there (c .before .before .before .before .before .before .before .before)))
@@ -69,13 +70,19 @@ enum-told-3 c = search needs
 
 returns-4 : tie.Need-returns-4
 returns-4 c =
-    let q = c .before .before .before .before .before .before in
-    three-ill₃ _ _ _ (there (q .before .before .before .before .before)) (q .before .before .before .before .four .ensures) (q .before .before .a .given .1) (q .four2 .ensures) (c .before .before .before .before .b .given .1) (c .before .before .four3 .ensures) (c .enum-told3 .given .1)
+    let at-four3 = c .before .before in
+    let at-b = at-four3 .before .before in
+    let q = at-b .before .before in
+    three-ill₃ _ _ _ (there (q .before .before .before .before .before)) (q .before .before .before .before .four .ensures) (q .before .before .a .given .1)
+    (q .four2 .ensures) (at-b .b .given .1) (at-four3 .four3 .ensures) (c .enum-told3 .given .1)
 
 returns-5 : tie.Need-returns-5
 returns-5 c =
-    let q = c .before .before .before .before .before .before .before in
-    three-whole _ _ _ (there (q .before .before .before .before .before)) (q .before .before .before .before .four .ensures) (q .before .before .a .given .1) (q .four2 .ensures) (c .before .before .before .before .before .b .given .1) (c .before .before .before .four3 .ensures) (c .before .c .given .1)
+    let at-four3 = c .before .before .before in
+    let at-b = at-four3 .before .before in
+    let q = at-b .before .before in
+    three-whole _ _ _ (there (q .before .before .before .before .before)) (q .before .before .before .before .four .ensures) (q .before .before .a .given .1)
+    (q .four2 .ensures) (at-b .b .given .1) (at-four3 .four3 .ensures) (c .before .c .given .1)
 
 pub numbers-at-spec : {M : Type 1} → statement M
 numbers-at-spec =

@@ -1,96 +1,74 @@
-use mathlib.Core.Path.{refl, _∙_}
-use native.Mathlib.Omega.{arith}
-use lib.ListN.{length}
-use Rattle.meaning.specs.Lists.{mostVertices}
-use Rattle.joins.specs.Join.{joinedList}
-use Rattle.joins.proofs.Whole.{read-room, triple-room, whole-room}
+-- `joins::join_by_sweep` meets its contract: few vertices may do with small room.
 use borrow.Author.Needs.{needs}
+use native.Mathlib.Omega.{arith}
+use denote.Ref.{now}
+use Rattle.lists.proofs.Vertices.{length-vertices}
 use Rattle.joins.proofs.join_by_sweep.Statement.{statement}
 use Rattle.joins.proofs.join_by_sweep.Tie as tie
 
-fitting-requires : tie.Need-fitting-requires
-fitting-requires c κs = search needs
+mul-if1 : tie.Need-mul-if1
+mul-if1 c = search needs
 
-slice-aggregate-join-in : tie.Need-slice-aggregate-join-in
-slice-aggregate-join-in c = search needs
-
-slice-aggregate-join-in-2 : tie.Need-slice-aggregate-join-in-2
-slice-aggregate-join-in-2 c = search needs
-
-slice-aggregate-join-in-3 : tie.Need-slice-aggregate-join-in-3
-slice-aggregate-join-in-3 c = search needs
-
-slice-aggregate-join-in-4 : tie.Need-slice-aggregate-join-in-4
-slice-aggregate-join-in-4 c = search needs
-
-slice-aggregate-join-in-5 : tie.Need-slice-aggregate-join-in-5
-slice-aggregate-join-in-5 c = search needs
-
-slice-aggregate-join-in-6 : tie.Need-slice-aggregate-join-in-6
-slice-aggregate-join-in-6 c = search needs
-
-slice-aggregate-join-in-7 : tie.Need-slice-aggregate-join-in-7
-slice-aggregate-join-in-7 c = search needs
-
-slice-aggregate-join-in-8 : tie.Need-slice-aggregate-join-in-8
-slice-aggregate-join-in-8 c = search needs
-
-slice-aggregate-join-in-9 : tie.Need-slice-aggregate-join-in-9
-slice-aggregate-join-in-9 c = search needs
-
-slice-aggregate-join-in-10 : tie.Need-slice-aggregate-join-in-10
-slice-aggregate-join-in-10 c = search needs
-
-slice-aggregate-join-in-11 : tie.Need-slice-aggregate-join-in-11
-slice-aggregate-join-in-11 c = search needs
-
-slice-aggregate-join-in-12 : tie.Need-slice-aggregate-join-in-12
-slice-aggregate-join-in-12 c = search needs
-
-join-in-requires : tie.Need-join-in-requires
-unfolding mostVertices
-join-in-requires c κs =
-    let at-fitting = c .before .before .before .before .before .before .before .before .before .before .before .before .before in
-    let start = at-fitting .before in
-    let p = start .pre in
-    let e = at-fitting .fitting .ensures in (
-      p,
-      (
-        record
-            { is-ka = refl; is-kb = refl; is-kr = refl; is-sa = refl; is-sb = refl; is-sc = refl; is-sn = refl; is-ta = refl; is-tb = refl; is-tc = refl; is-tn = refl; is-room = refl },
-        ((read-room _ (p .0), read-room _ (p .1)), (omega (arith, e), triple-room (at-fitting .fitting .result) (length (start .args .out .now)) (omega (arith, e)))),
-      ),
-    )
+join-many-requires : tie.Need-join-many-requires
+join-many-requires c κs = search needs
 
 same-length : tie.Need-same-length
 same-length c = search needs
 
 returns : tie.Need-returns
-returns c o is =
-    let at-join-in = c .before .before .before .before .before .before .before .before .before .before .before .before .before in
-    let at-fitting = at-join-in .before .before .before .before .before .before .before .before .before .before .before .before .before .before in
-    let s = at-fitting .before in
-    let r = at-join-in .join-in .ensures o is in
-    let w = whole-room (joinedList o (s .args .a .now) (s .args .b .now)) (s .args .out .now) (at-fitting .fitting .result) (at-fitting .fitting .ensures) in
-    (r .0 ∙ w .0, r .1 ∙ w .1)
+returns c = search needs
+
+mul-if2 : tie.Need-mul-if2
+mul-if2 c = search needs
+
+join-many-requires-2 : tie.Need-join-many-requires-2
+join-many-requires-2 c κs = search needs
+
+same-length-2 : tie.Need-same-length-2
+same-length-2 c = search needs
+
+returns-2 : tie.Need-returns-2
+returns-2 c = search needs
+
+mul-if3 : tie.Need-mul-if3
+mul-if3 c = search needs
+
+join-many-requires-3 : tie.Need-join-many-requires-3
+join-many-requires-3 c κs = search needs
+
+same-length-3 : tie.Need-same-length-3
+same-length-3 c = search needs
+
+returns-3 : tie.Need-returns-3
+returns-3 c = search needs
+
+join-small-requires : tie.Need-join-small-requires
+join-small-requires c κs =
+    let s = c .before .before .before .before in
+    (s .pre, ((omega (arith, length-vertices (now (s .args .a))), omega (arith, length-vertices (now (s .args .b)))), omega arith))
+
+same-length-4 : tie.Need-same-length-4
+same-length-4 c = search needs
+
+returns-4 : tie.Need-returns-4
+returns-4 c = search needs
 
 pub join-by-sweep-spec : {M : Type 1} → statement M
 join-by-sweep-spec =
     tie.close
     (tie.spec
-    fitting-requires
-    slice-aggregate-join-in
-    slice-aggregate-join-in-2
-    slice-aggregate-join-in-3
-    slice-aggregate-join-in-4
-    slice-aggregate-join-in-5
-    slice-aggregate-join-in-6
-    slice-aggregate-join-in-7
-    slice-aggregate-join-in-8
-    slice-aggregate-join-in-9
-    slice-aggregate-join-in-10
-    slice-aggregate-join-in-11
-    slice-aggregate-join-in-12
-    join-in-requires
+    mul-if1
+    join-many-requires
     same-length
-    returns)
+    returns
+    mul-if2
+    join-many-requires-2
+    same-length-2
+    returns-2
+    mul-if3
+    join-many-requires-3
+    same-length-3
+    returns-3
+    join-small-requires
+    same-length-4
+    returns-4)

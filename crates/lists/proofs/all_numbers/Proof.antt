@@ -33,8 +33,11 @@ loop-less c = search needs
 loop-again : tie.Need-loop-again Inv-loop μ-loop
 loop-again c =
     let k = c .before .before in
-    let l = now (k .before .args .list) in
-    (omega arith, flag-more (λ j. isNumber (getD l j (pos 0)) ≡ true) (k .loop .good) (c .number-at .result) (k .loop .i) (k .loop .inv .1) (λ e. sym (c .number-at .ensures) ∙ e))
+    let l = now (k .before .args .list) in (
+      omega arith,
+      flag-more (λ j. isNumber (getD l j (pos 0)) ≡ true) (k .loop .good) (c .number-at .result) (k .loop .i) (k .loop .inv .1)
+          (λ e. sym (c .number-at .ensures) ∙ e),
+    )
 
 returns : tie.Need-returns Inv-loop μ-loop
 returns c e k h = c .before .loop .inv .1 e k (omega arith)

@@ -32,8 +32,11 @@ number-at-requires-2 c κs = search needs
 
 returns-2 : tie.Need-returns-2
 returns-2 c =
-    let v = vertex (c .before .before .before .before) in
-    all-second (isNumber (v .focus)) (isNumber (v .first)) (isNumber (v .second)) (said-yes (c .before .before .before .number-at .ensures) (c .before .before .if1 .left))
+    let at-if1 = c .before .before in
+    let at-number-at = at-if1 .before in
+    let earlier = at-number-at .before in
+    let v = vertex earlier in
+    all-second (isNumber (v .focus)) (isNumber (v .first)) (isNumber (v .second)) (said-yes (at-number-at .number-at .ensures) (at-if1 .if1 .left))
     (said-no (c .before .number-at2 .ensures) (c .if2 .taken))
 
 mul-number-at-3 : tie.Need-mul-number-at-3
@@ -47,9 +50,13 @@ number-at-requires-3 c κs = search needs
 
 returns-3 : tie.Need-returns-3
 returns-3 c =
-    let v = vertex (c .before .before .before .before .before) in
-    all-third (isNumber (v .focus)) (isNumber (v .first)) (isNumber (v .second)) (said-yes (c .before .before .before .before .number-at .ensures) (c .before .before .before .if1 .left))
-    (said-yes (c .before .before .number-at2 .ensures) (c .before .if2 .left))
+    let at-number-at2 = c .before .before in
+    let at-if1 = at-number-at2 .before in
+    let at-number-at = at-if1 .before in
+    let earlier = at-number-at .before in
+    let v = vertex earlier in
+    all-third (isNumber (v .focus)) (isNumber (v .first)) (isNumber (v .second)) (said-yes (at-number-at .number-at .ensures) (at-if1 .if1 .left))
+    (said-yes (at-number-at2 .number-at2 .ensures) (c .before .if2 .left))
     (c .number-at3 .ensures)
 
 pub corner-at-spec : {M : Type 1} → statement M

@@ -47,11 +47,13 @@ loop-less c = search needs
 
 loop-again : tie.Need-loop-again Inv-loop μ-loop
 loop-again c =
-    let k = c .before .before .before .before in
-    let s = c .before .before .loop in (
+    let turn = c .before .before in
+    let k = turn .before .before in
+    let s = turn .loop in (
       length-set (s .keys) (s .i) (c .pair-at .result) ∙ s .inv .0,
       omega arith,
-      filled-more (numbers k) (k .args .a) (k .args .b) (s .i) (s .keys) (c .pair-at .result) (omega (arith, length-vertices (numbers k))) (s .inv .2) (c .pair-at .ensures),
+      filled-more (numbers k) (k .args .a) (k .args .b) (s .i) (s .keys) (c .pair-at .result) (omega (arith, length-vertices (numbers k))) (s .inv .2)
+          (c .pair-at .ensures),
     )
 
 same-length : tie.Need-same-length Inv-loop μ-loop

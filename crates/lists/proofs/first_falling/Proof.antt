@@ -53,11 +53,13 @@ key-at-requires c κs =
 
 -- the test at the place of a turn, by the two keys
 next : (c : tie.After-key-at2 Inv-loop μ-loop) →
-    fallsAt (vertices (numbers (c .before .before .before .before .before .before))) (c .before .before .before .loop .i) ≡ not (ltb (c .key-at2 .result) (c .before .key-at .result))
+    fallsAt (vertices (numbers (c .before .before .before .before .before .before))) (c .before .before .before .loop .i) ≡ not
+    (ltb (c .key-at2 .result) (c .before .key-at .result))
 next c =
-    let k = c .before .before .before in
+    let earlier = c .before .before in
+    let k = earlier .before in
     let s = k .before .before .before in
-    falls-key (numbers s) (k .loop .i) (s .pre) (k .loop .inv .0) (place (c .before .before)) ∙
+    falls-key (numbers s) (k .loop .i) (s .pre) (k .loop .inv .0) (place earlier) ∙
     ap₂ (λ a b. not (ltb a b)) (sym (c .key-at2 .ensures)) (sym (c .before .key-at .ensures))
 
 sub-key-at : tie.Need-sub-key-at Inv-loop μ-loop

@@ -34,15 +34,19 @@ returns-2 c =
 
 returns-3 : tie.Need-returns-3
 returns-3 c =
-    let k = c .before .before .before in
+    let at-if1 = c .before .before in
+    let k = at-if1 .before in
     let s = k .before .before in
-    high-under (s .args .low) (s .args .high) (s .fits .low) (s .fits .high) (low (k .before)) (high k) (c .before .before .if1 .left) (c .before .if2 .left) (c .if3 .taken)
+    high-under (s .args .low) (s .args .high) (s .fits .low) (s .fits .high) (low (k .before)) (high k) (at-if1 .if1 .left) (c .before .if2 .left)
+    (c .if3 .taken)
 
 returns-4 : tie.Need-returns-4
 returns-4 c =
-    let k = c .before .before .before in
+    let at-if1 = c .before .before in
+    let k = at-if1 .before in
     let s = k .before .before in
-    high-last (s .args .low) (s .args .high) (s .fits .low) (s .fits .high) (low (k .before)) (high k) (c .before .before .if1 .left) (c .before .if2 .left) (c .if3 .left)
+    high-last (s .args .low) (s .args .high) (s .fits .low) (s .fits .high) (low (k .before)) (high k) (at-if1 .if1 .left) (c .before .if2 .left)
+    (c .if3 .left)
 
 pub good-end-spec : {M : Type 1} → statement M
 good-end-spec =

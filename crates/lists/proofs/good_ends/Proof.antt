@@ -90,10 +90,11 @@ good-end-requires-3 c κs = search needs
 
 returns-3 : tie.Need-returns-3
 returns-3 c =
-    let w = c .before .before .before .before in
+    let at-if2 = c .before .before .before in
+    let w = at-if2 .before in
     let k = w .before .before .before .before in
     let e = k .before .before .before .args .t1 in
-    all-third (good e 0) (good e 1) (good e 2) (said-yes (one k) (w .before .before .before .if1 .left)) (said-yes (two w) (c .before .before .before .if2 .left)) (three c)
+    all-third (good e 0) (good e 1) (good e 2) (said-yes (one k) (w .before .before .before .if1 .left)) (said-yes (two w) (at-if2 .if2 .left)) (three c)
 
 pub good-ends-spec : {M : Type 1} → statement M
 good-ends-spec =

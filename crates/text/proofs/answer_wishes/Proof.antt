@@ -37,8 +37,11 @@ room c = c .read-wishes .kept .1 .1 .0
 -- the answers fit
 fits : (c : tie.After-known-told2) → 17 * (length (take (3 * c .before .count .given .0 .0) (c .before .before .before .before .read-wishes .last .1 .1 .0)) / 3) ≤ length (now (c .before .before .before .before .before .before .before .before .args .out))
 fits c =
-    let long = length-take-le (3 * c .before .count .given .0 .0) (c .before .before .before .before .read-wishes .last .1 .1 .0) (omega (arith, few c, room (c .before .before .before .before))) in
-    omega (arith, few c, c .before .before .before .before .before .before .before .before .pre .1 .1)
+    let at-read-wishes = c .before .before .before .before in
+    let start = at-read-wishes .before .before .before .before in
+    let long = length-take-le (3 * c .before .count .given .0 .0) (at-read-wishes .read-wishes .last .1 .1 .0) (omega (arith, few c, room (at-read-wishes)))
+    in
+    omega (arith, few c, start .pre .1 .1)
 
 mul-end : tie.Need-mul-end
 mul-end c = omega (arith, few c)
@@ -57,18 +60,25 @@ same-length c = search needs
 
 returns : tie.Need-returns
 returns c =
-    let start = c .before .before .before .before .before .before .before .before .before .before .before .before in
-    let e = ap (λ r. meant r (c .before .before .before .before .before .before .before .before .read-wishes .last .1 .1 .0)) (sym (c .before .before .before .before .before .number .given .1)) ∙ c .before .before .before .before .before .before .before .before .read-wishes .ensures .0 in
+    let at-refuse = c .before .before in
+    let at-number = at-refuse .before .before .before in
+    let at-read-wishes = at-number .before .before .before in
+    let start = at-read-wishes .before .before .before .before in
+    let e = ap (λ r. meant r (at-read-wishes .read-wishes .last .1 .1 .0)) (sym (at-number .number .given .1)) ∙ at-read-wishes .read-wishes .ensures .0 in
     let h : 9 ≤ length (now (start .args .out)) = omega (arith, start .pre .1 .1) in
-    wishes-refused _ e h (c .before .before .refuse .ensures)
+    wishes-refused _ e h (at-refuse .refuse .ensures)
 
 same-length-2 : tie.Need-same-length-2
 same-length-2 c = search needs
 
 returns-2 : tie.Need-returns-2
 returns-2 c =
-    let e = ap (λ r. meant r (c .before .before .before .before .before .before .before .before .before .read-wishes .last .1 .1 .0)) (sym (c .before .before .before .before .before .before .count .given .1)) ∙ c .before .before .before .before .before .before .before .before .before .read-wishes .ensures .0 in
-    wishes-answered _ e (c .before .before .answer-all .ensures .0) (fits (c .before .before .before .before .before)) (c .before .before .answer-all .ensures .1)
+    let at-answer-all = c .before .before in
+    let earlier = at-answer-all .before .before .before in
+    let at-count = earlier .before in
+    let at-read-wishes = at-count .before .before .before in
+    let e = ap (λ r. meant r (at-read-wishes .read-wishes .last .1 .1 .0)) (sym (at-count .count .given .1)) ∙ at-read-wishes .read-wishes .ensures .0 in
+    wishes-answered _ e (at-answer-all .answer-all .ensures .0) (fits earlier) (at-answer-all .answer-all .ensures .1)
 
 pub answer-wishes-spec : {M : Type 1} → statement M
 answer-wishes-spec =

@@ -48,7 +48,9 @@ fits c = omega (arith, few c, room (c .before .before .before .before))
 
 -- the map is read whole
 read : (c : tie.After-known-told2) → whole (take (3 * c .before .n .given .0 .0) (c .before .before .before .before .read-map .last .1 .0)) ≡ mapText (now (c .before .before .before .before .before .before .before .before .args .input))
-read c = ap (λ r. meant r (c .before .before .before .before .read-map .last .1 .0)) (sym (c .before .n .given .1)) ∙ c .before .before .before .before .read-map .ensures .0
+read c =
+    let at-read-map = c .before .before .before .before in
+    ap (λ r. meant r (at-read-map .read-map .last .1 .0)) (sym (c .before .n .given .1)) ∙ at-read-map .read-map .ensures .0
 
 mul-end : tie.Need-mul-end
 mul-end c = omega (arith, few c)
@@ -64,11 +66,17 @@ answer-wishes-requires c κs = (few (c .before .before), (map-read _ _ (read (c 
 
 returns-2 : tie.Need-returns-2
 returns-2 c =
-    let e = ap (λ r. meant r (c .before .before .before .before .before .before .read-map .last .1 .0)) (sym (c .before .before .before .number .given .1)) ∙ c .before .before .before .before .before .before .read-map .ensures .0 in
-    map-refused _ (c .before .before .before .before .before .before .before .before .if1 .left) e (search needs) (c .refuse2 .ensures)
+    let at-number = c .before .before .before in
+    let at-read-map = at-number .before .before .before in
+    let at-if1 = at-read-map .before .before in
+    let e = ap (λ r. meant r (at-read-map .read-map .last .1 .0)) (sym (at-number .number .given .1)) ∙ at-read-map .read-map .ensures .0 in
+    map-refused _ (at-if1 .if1 .left) e (search needs) (c .refuse2 .ensures)
 
 returns-3 : tie.Need-returns-3
-returns-3 c = map-answered _ (c .before .before .before .before .before .before .before .before .before .if1 .left) _ _ (fits (c .before .before .before)) (read (c .before .before .before)) (c .answer-wishes .ensures)
+returns-3 c =
+    let earlier = c .before .before .before in
+    let at-if1 = earlier .before .before .before .before .before .before in
+    map-answered _ (at-if1 .if1 .left) _ _ (fits earlier) (read earlier) (c .answer-wishes .ensures)
 
 pub respond-spec : {M : Type 1} → statement M
 respond-spec =

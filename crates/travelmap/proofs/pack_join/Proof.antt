@@ -14,7 +14,10 @@ enum-known-answer c = search needs
 
 cast-pack : tie.Need-cast-pack
 unfolding mostVertices
-cast-pack c = let few = subst (λ a. (joinValues a .place ≤ mostVertices) × (joinValues a .count ≤ mostVertices)) (c .before .answer .given .1) (c .before .before .before .pre) in omega (arith, few .1)
+cast-pack c = let few =
+    let start = c .before .before .before in
+    subst (λ a. (joinValues a .place ≤ mostVertices) × (joinValues a .count ≤ mostVertices)) (c .before .answer .given .1) (start .pre) in omega
+    (arith, few .1)
 
 pack-requires : tie.Need-pack-requires
 pack-requires c κs = search needs

@@ -21,7 +21,8 @@ returns c =
     let a = start .args in
     c .pack-cell .ensures ∙
     ap packedCell (c .before .cell-permitted .ensures .answer) ∙
-    back-three (λ x y z. packedCell (cellAnswer (now (a .list)) (cell x y z))) (a .focus) (a .first) (a .second) (start .fits .focus) (start .fits .first) (start .fits .second)
+    back-three (λ x y z. packedCell (cellAnswer (now (a .list)) (cell x y z))) (a .focus) (a .first) (a .second) (start .fits .focus) (start .fits .first)
+    (start .fits .second)
 
 pub travelmap-cell-spec : {M : Type 1} → statement M
 travelmap-cell-spec = tie.close (tie.spec cell-permitted-requires pack-cell-requires returns)

@@ -49,14 +49,16 @@ add-result c =
 
 returns : tie.Need-returns
 returns c =
-    let done = c .before .before .before .before .before in
+    let at-pack-verdict = c .before .before in
+    let done = at-pack-verdict .before .before .before in
     let start = done .before in
     let a = start .args in
-    let sum : c .before .before .pack-verdict .result + c .pack .result ≡ packedCorner (done .corner-report .result) =
-    omega (arith, c .pack .ensures, c .before .before .pack-verdict .ensures) in
+    let sum : at-pack-verdict .pack-verdict .result + c .pack .result ≡ packedCorner (done .corner-report .result) =
+    omega (arith, c .pack .ensures, at-pack-verdict .pack-verdict .ensures) in
     sum ∙
     ap packedCorner (done .corner-report .ensures .answer) ∙
-    back-three (λ x y z. packedCorner (cornerAnswer (now (a .list)) (corner x y z))) (a .focus) (a .first) (a .second) (start .fits .focus) (start .fits .first) (start .fits .second)
+    back-three (λ x y z. packedCorner (cornerAnswer (now (a .list)) (corner x y z))) (a .focus) (a .first) (a .second) (start .fits .focus)
+    (start .fits .first) (start .fits .second)
 
 pub travelmap-corner-spec : {M : Type 1} → statement M
 travelmap-corner-spec =

@@ -16,7 +16,8 @@ nearest-requires : tie.Need-nearest-requires
 nearest-requires c κs = search needs
 
 pack-distance-requires : tie.Need-pack-distance-requires
-pack-distance-requires c κs = found-few (c .before .args .list .now) (cell (c .before .args .focus) (c .before .args .first) (c .before .args .second)) (c .nearest .result) (allowed c)
+pack-distance-requires c κs =
+    found-few (c .before .args .list .now) (cell (c .before .args .focus) (c .before .args .first) (c .before .args .second)) (c .nearest .result) (allowed c)
 
 returns : tie.Need-returns
 returns c = record { found = c .before .nearest .result; allowed = allowed (c .before); answer = c .pack-distance .ensures }

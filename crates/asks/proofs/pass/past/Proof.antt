@@ -34,7 +34,10 @@ loop-less : tie.Need-loop-less Inv-loop μ-loop
 loop-less c = search needs
 
 loop-again : tie.Need-loop-again Inv-loop μ-loop
-loop-again c = (search needs, past-next _ _ _ _ _ (c .before .before .loop-test .taken) (c .before .lift-at .ensures) (c .if1 .left) (c .before .before .before .loop .inv .1))
+loop-again c =
+    let at-loop-test = c .before .before in
+    let turn = at-loop-test .before in
+    (search needs, past-next _ _ _ _ _ (at-loop-test .loop-test .taken) (c .before .lift-at .ensures) (c .if1 .left) (turn .loop .inv .1))
 
 returns-2 : tie.Need-returns-2 Inv-loop μ-loop
 returns-2 c = past-end _ _ _ _ (c .loop-test .left) (c .before .loop .inv .1)

@@ -64,27 +64,35 @@ empty-line-requires-2 c κs = search needs
 -- what nearest answers of wish i
 said : (c : tie.After-nearest-of-map) → let a = c .before .before .before .before .args in Answered (now (a .list)) (wishAt (now (a .wishes)) (a .i)) (c .nearest-of-map .result)
 said c =
-    let a = c .before .before .before .before .args in
+    let at-nearest-of-map-arg2 = c .before .before in
+    let at-nearest-of-map-arg = at-nearest-of-map-arg2 .before in
+    let start = at-nearest-of-map-arg .before in
+    let a = start .args in
     let at = 3 * a .i in
-    let x = read-back (getD (now (a .wishes)) at (pos 0)) (c .before .before .before .nearest-of-map-arg .given) in
-    let y = read-back (getD (now (a .wishes)) (at + 1) (pos 0)) (c .before .before .nearest-of-map-arg2 .given) in
+    let x = read-back (getD (now (a .wishes)) at (pos 0)) (at-nearest-of-map-arg .nearest-of-map-arg .given) in
+    let y = read-back (getD (now (a .wishes)) (at + 1) (pos 0)) (at-nearest-of-map-arg2 .nearest-of-map-arg2 .given) in
     let z = read-back (getD (now (a .wishes)) (at + 2) (pos 0)) (c .before .nearest-of-map-arg3 .given) in
     subst (λ w. Answered (now (a .list)) w (c .nearest-of-map .result)) (λ j. cell (x j) (y j) (z j)) (c .nearest-of-map .ensures)
 
 returns : tie.Need-returns
 returns c =
+    let at-focus = c .before .before in
+    let earlier = at-focus .before .before in
     let k = c .before .known-told .given in
-    let f = c .before .before .focus .given .0 in
+    let f = at-focus .focus .given .0 in
     let x = read-back (f .0) (k .0 .1) in
     let y = read-back (f .1 .0) (k .1 .0 .1) in
     let z = read-back (f .1 .1 .0) (k .1 .1 .0 .1) in
-    answer-at _ _ _ _ _ _ _ (subst (Answered _ _) (c .before .before .focus .given .1) (said (c .before .before .before .before))) (c .cell-line .ensures ∙ λ j. cellLine (cell (x j) (y j) (z j)))
+    answer-at _ _ _ _ _ _ _ (subst (Answered _ _) (at-focus .focus .given .1) (said earlier)) (c .cell-line .ensures ∙ λ j. cellLine (cell (x j) (y j) (z j)))
 
 returns-2 : tie.Need-returns-2
 returns-2 c = answer-empty _ _ _ (subst (Answered _ _) (c .before .enum-told .given .1) (said (c .before .before .before))) (c .empty-line .ensures)
 
 returns-3 : tie.Need-returns-3
-returns-3 c = answer-refused _ _ _ _ (c .before .before .before .before .before .before .before .pre .0) (subst (Answered _ _) (c .before .enum-told2 .given .1) (said (c .before .before .before)))
+returns-3 c =
+    let earlier = c .before .before .before in
+    let start = earlier .before .before .before .before in
+    answer-refused _ _ _ _ (start .pre .0) (subst (Answered _ _) (c .before .enum-told2 .given .1) (said earlier))
 
 pub answer-spec : {M : Type 1} → statement M
 answer-spec =

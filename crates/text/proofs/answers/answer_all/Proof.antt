@@ -48,8 +48,10 @@ loop-less c = search needs
 
 loop-again : tie.Need-loop-again Inv-loop μ-loop
 loop-again c =
-    let q = c .before .before .before .before .before .before .before in
-    (omega arith, written-more _ _ _ _ _ _ _ (q .loop .inv .1) (c .before .before .before .before .before .answer .ensures) (omega arith) (c .before .before .put .ensures))
+    let at-put = c .before .before in
+    let at-answer = at-put .before .before .before in
+    let q = at-answer .before .before in
+    (omega arith, written-more _ _ _ _ _ _ _ (q .loop .inv .1) (at-answer .answer .ensures) (omega arith) (at-put .put .ensures))
 
 mul-result : tie.Need-mul-result Inv-loop μ-loop
 mul-result c = search needs

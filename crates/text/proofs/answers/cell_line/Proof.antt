@@ -65,10 +65,26 @@ hex-requires-12 c κs = search needs
 
 returns : tie.Need-returns
 returns c =
+    let at-hex10 = c .before .before in
+    let at-hex9 = at-hex10 .before in
+    let at-hex8 = at-hex9 .before in
+    let at-hex7 = at-hex8 .before in
+    let at-hex6 = at-hex7 .before in
+    let at-hex5 = at-hex6 .before in
+    let at-hex4 = at-hex5 .before in
+    let at-hex3 = at-hex4 .before in
+    let at-hex2 = at-hex3 .before in
+    let at-hex = at-hex2 .before in
+    let at-word3 = at-hex .before in
+    let at-word2 = at-word3 .before in
+    let at-word = at-word2 .before in
+    let at-fits = at-word .before in
     ap (λ t. 48 ∷ 53 ∷ 48 ∷ 48 ∷ t)
-    (four-then (c .before .before .before .before .before .before .before .before .before .before .before .before .before .before .word .ensures ∙ ap word (toZ-ofZ w16 _ (c .before .before .before .before .before .before .before .before .before .before .before .before .before .before .before .fits .focus))) (c .before .before .before .before .before .before .before .before .before .before .before .hex .ensures) (c .before .before .before .before .before .before .before .before .before .before .hex2 .ensures) (c .before .before .before .before .before .before .before .before .before .hex3 .ensures) (c .before .before .before .before .before .before .before .before .hex4 .ensures)
-    (four-then (c .before .before .before .before .before .before .before .before .before .before .before .before .before .word2 .ensures ∙ ap word (toZ-ofZ w16 _ (c .before .before .before .before .before .before .before .before .before .before .before .before .before .before .before .fits .first))) (c .before .before .before .before .before .before .before .hex5 .ensures) (c .before .before .before .before .before .before .hex6 .ensures) (c .before .before .before .before .before .hex7 .ensures) (c .before .before .before .before .hex8 .ensures)
-    (four-then {r = 10 ∷ []} (c .before .before .before .before .before .before .before .before .before .before .before .before .word3 .ensures ∙ ap word (toZ-ofZ w16 _ (c .before .before .before .before .before .before .before .before .before .before .before .before .before .before .before .fits .second))) (c .before .before .before .hex9 .ensures) (c .before .before .hex10 .ensures) (c .before .hex11 .ensures) (c .hex12 .ensures) refl)))
+    (four-then (at-word .word .ensures ∙ ap word (toZ-ofZ w16 _ (at-fits .fits .focus))) (at-hex .hex .ensures) (at-hex2 .hex2 .ensures)
+    (at-hex3 .hex3 .ensures) (at-hex4 .hex4 .ensures)
+    (four-then (at-word2 .word2 .ensures ∙ ap word (toZ-ofZ w16 _ (at-fits .fits .first))) (at-hex5 .hex5 .ensures) (at-hex6 .hex6 .ensures)
+    (at-hex7 .hex7 .ensures) (at-hex8 .hex8 .ensures)
+    (four-then {r = 10 ∷ []} (at-word3 .word3 .ensures ∙ ap word (toZ-ofZ w16 _ (at-fits .fits .second))) (at-hex9 .hex9 .ensures) (at-hex10 .hex10 .ensures) (c .before .hex11 .ensures) (c .hex12 .ensures) refl)))
 
 pub cell-line-spec : {M : Type 1} → statement M
 cell-line-spec =

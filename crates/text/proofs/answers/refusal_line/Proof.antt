@@ -26,8 +26,14 @@ hex-requires-6 c κs = search needs
 
 returns : tie.Need-returns
 returns c =
-    let place = four-then {m = c .before .before .before .before .before .before .args .place} {r = 10 ∷ []} refl (c .before .before .before .hex3 .ensures) (c .before .before .hex4 .ensures) (c .before .hex5 .ensures) (c .hex6 .ensures) refl in
-    λ i. 48 ∷ 54 ∷ c .before .before .before .before .before .hex .ensures i ∷ c .before .before .before .before .hex2 .ensures i ∷ place i
+    let at-hex4 = c .before .before in
+    let at-hex3 = at-hex4 .before in
+    let at-hex2 = at-hex3 .before in
+    let at-hex = at-hex2 .before in
+    let start = at-hex .before in
+    let place = four-then {m = start .args .place} {r = 10 ∷ []} refl (at-hex3 .hex3 .ensures) (at-hex4 .hex4 .ensures) (c .before .hex5 .ensures)
+    (c .hex6 .ensures) refl in
+    λ i. 48 ∷ 54 ∷ at-hex .hex .ensures i ∷ at-hex2 .hex2 .ensures i ∷ place i
 
 pub refusal-line-spec : {M : Type 1} → statement M
 refusal-line-spec =

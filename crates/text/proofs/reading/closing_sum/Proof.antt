@@ -45,11 +45,14 @@ loop-less c = search needs
 
 loop-again : tie.Need-loop-again Inv-loop μ-loop
 loop-again c =
-    let q = c .before .before .before in (
+    let at-loop-test = c .before .before in
+    let earlier = at-loop-test .before in
+    let q = earlier in (
       omega arith,
       (
         omega arith,
-        sum-more _ _ _ _ (q .loop .inv .1 .1) _ (c .before .before .loop-test .taken) (c .word .ensures ∙ ap word (read-back (getD (now (q .before .args .list)) (q .loop .i) (pos 0)) (c .before .word-arg .given))),
+        sum-more _ _ _ _ (q .loop .inv .1 .1) _ (at-loop-test .loop-test .taken)
+            (c .word .ensures ∙ ap word (read-back (getD (now (q .before .args .list)) (q .loop .i) (pos 0)) (c .before .word-arg .given))),
       ),
     )
 

@@ -27,11 +27,17 @@ fits c = omega (arith, room (c .before .before), c .before .before .before .befo
 
 -- the closing line holds a sum, and all vertices are read
 summed : (c : tie.After-known-told2) → Number (c .before .sum .given .0 .0) ≡ oneAt (now (c .before .before .before .before .before .before .before .before .before .before .before .before .before .before .args .s)) sumTag (7 + 15 * c .before .before .before .before .before .before .before .before .before .before .count .given .0 .0)
-summed c = sym (c .before .sum .given .1) ∙ c .before .before .before .number-at2 .ensures
+summed c =
+    let at-number-at2 = c .before .before .before in
+    sym (c .before .sum .given .1) ∙ at-number-at2 .number-at2 .ensures
 
 all : (c : tie.Else2) → let n = c .before .before .before .before .before .before .count .given .0 .0 in
-    take (3 * n) (c .before .before .frames-from .last .1 .1 .1 .1 .0) ≡ numbersFrom (now (c .before .before .before .before .before .before .before .before .before .before .args .s)) vertexTag 7 n
-all c = all-read _ _ _ (c .before .before .before .before .before .before .count .given .0 .0) _ (c .before .before .frames-from .ensures .0) (omega arith) (c .before .before .frames-from .ensures .1)
+    take (3 * n) (c .before .before .frames-from .last .1 .1 .1 .1 .0) ≡ numbersFrom
+    (now (c .before .before .before .before .before .before .before .before .before .before .args .s)) vertexTag 7 n
+all c =
+    let at-frames-from = c .before .before in
+    let at-count = at-frames-from .before .before .before .before in
+    all-read _ _ _ (at-count .count .given .0 .0) _ (at-frames-from .frames-from .ensures .0) (omega arith) (at-frames-from .frames-from .ensures .1)
 
 number-at-requires : tie.Need-number-at-requires
 number-at-requires c κs = search needs
@@ -61,7 +67,11 @@ same-length : tie.Need-same-length
 same-length c = search needs
 
 returns-3 : tie.Need-returns-3
-returns-3 c = (map-ill-vertex _ (counted (c .before .before .before .before .before)) (c .before .before .before .before .if1 .left) (c .before .before .frames-from .ensures .0) (omega arith), tt)
+returns-3 c =
+    let at-frames-from = c .before .before in
+    let at-if1 = at-frames-from .before .before in
+    let earlier = at-if1 .before in
+    (map-ill-vertex _ (counted earlier) (at-if1 .if1 .left) (at-frames-from .frames-from .ensures .0) (omega arith), tt)
 
 mul-number-at : tie.Need-mul-number-at
 mul-number-at c = search needs
@@ -85,11 +95,16 @@ same-length-2 : tie.Need-same-length-2
 same-length-2 c = search needs
 
 returns-4 : tie.Need-returns-4
-returns-4 c = (
-  map-ill-sum _ (counted (c .before .before .before .before .before .before .before .before)) (c .before .before .before .before .before .before .before .if1 .left) (c .before .before .before .before .before .frames-from .ensures .0) (c .before .before .before .if2 .left)
-      (sym (c .enum-told2 .given .1) ∙ c .before .before .number-at2 .ensures),
-  tt,
-)
+returns-4 c =
+    let at-number-at2 = c .before .before in
+    let at-if2 = at-number-at2 .before in
+    let at-frames-from = at-if2 .before .before in
+    let at-if1 = at-frames-from .before .before in
+    let earlier = at-if1 .before in (
+      map-ill-sum _ (counted earlier) (at-if1 .if1 .left) (at-frames-from .frames-from .ensures .0) (at-if2 .if2 .left)
+          (sym (c .enum-told2 .given .1) ∙ at-number-at2 .number-at2 .ensures),
+      tt,
+    )
 
 mul-end : tie.Need-mul-end
 mul-end c = search needs
@@ -111,7 +126,15 @@ same-length-3 c = search needs
 
 returns-5 : tie.Need-returns-5
 returns-5 c =
-    (map-wrong _ (counted (c .before .before .before .before .before .before .before .before .before .before .before .before)) (c .before .before .before .before .before .before .before .before .before .before .before .if1 .left) (c .before .before .before .before .before .before .before .before .before .frames-from .ensures .0) (c .before .before .before .before .before .before .before .if2 .left) (summed (c .before .before .before)) (all (c .before .before .before .before .before .before .before)) (λ e. c .if3 .taken (e ∙ sym (c .before .closing-sum .ensures))), tt)
+    let earlier = c .before .before .before in
+    let at-if2 = earlier .before .before .before .before in
+    let at-frames-from = at-if2 .before .before in
+    let at-if1 = at-frames-from .before .before in
+    let earlier-2 = at-if1 .before in (
+      map-wrong _ (counted earlier-2) (at-if1 .if1 .left) (at-frames-from .frames-from .ensures .0) (at-if2 .if2 .left) (summed earlier) (all (at-if2))
+          (λ e. c .if3 .taken (e ∙ sym (c .before .closing-sum .ensures))),
+      tt,
+    )
 
 slice-reshare-prefix-check : tie.Need-slice-reshare-prefix-check
 slice-reshare-prefix-check c = search needs
@@ -129,12 +152,20 @@ same-length-4 : tie.Need-same-length-4
 same-length-4 c = search needs
 
 returns-6 : tie.Need-returns-6
-returns-6 c = (
-  c .by-verdict .ensures .0 _ ∙
-      ap (byVerdict _) (c .before .check .ensures) ∙
-      map-right _ (counted (c .before .before .before .before .before .before .before .before .before .before .before .before .before .before .before)) (c .before .before .before .before .before .before .before .before .before .before .before .before .before .before .if1 .left) (c .before .before .before .before .before .before .before .before .before .before .before .before .frames-from .ensures .0) (c .before .before .before .before .before .before .before .before .before .before .if2 .left) (summed (c .before .before .before .before .before .before)) (all (c .before .before .before .before .before .before .before .before .before .before)) (omega (arith, c .before .before .before .if3 .left) ∙ c .before .before .before .before .closing-sum .ensures),
-  c .by-verdict .ensures .1,
-)
+returns-6 c =
+    let at-if3 = c .before .before .before in
+    let at-closing-sum = at-if3 .before in
+    let earlier = at-closing-sum .before .before in
+    let at-if2 = earlier .before .before .before .before in
+    let at-frames-from = at-if2 .before .before in
+    let at-if1 = at-frames-from .before .before in
+    let earlier-2 = at-if1 .before in (
+      c .by-verdict .ensures .0 _ ∙
+          ap (byVerdict _) (c .before .check .ensures) ∙
+          map-right _ (counted earlier-2) (at-if1 .if1 .left) (at-frames-from .frames-from .ensures .0) (at-if2 .if2 .left) (summed earlier) (all (at-if2))
+          (omega (arith, at-if3 .if3 .left) ∙ at-closing-sum .closing-sum .ensures),
+      c .by-verdict .ensures .1,
+    )
 
 pub read-map-spec : {M : Type 1} → statement M
 read-map-spec =

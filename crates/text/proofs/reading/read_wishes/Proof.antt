@@ -20,7 +20,9 @@ due c = (length (now (c .before .before .before .before .before .args .s)) - wis
 
 -- the first ill formed line of those that can be wishes
 found : (c : tie.After-frames-from) → c .frames-from .result ≡ first (illAt (now (c .before .before .before .before .before .args .s)) wishTag (wishPlace (c .before .before .before .before .before .args .n))) (min (due c) 256)
-found c = c .frames-from .ensures .0 ∙ ap (first _) (c .before .before .lesser .ensures)
+found c =
+    let at-lesser = c .before .before in
+    c .frames-from .ensures .0 ∙ ap (first _) (at-lesser .lesser .ensures)
 
 are-due : (c : tie.After-frames-from) → due c ≡ wishLines (now (c .before .before .before .before .before .args .s)) (c .before .before .before .before .before .args .n)
 are-due c = omega arith

@@ -1,0 +1,96 @@
+-- `joins::join_few` meets its contract: working room for few vertices.
+use mathlib.Core.Path.{refl, _∙_}
+use native.Mathlib.Omega.{arith}
+use lib.ListN.{length}
+use Rattle.meaning.specs.Lists.{mostVertices}
+use Rattle.joins.specs.Join.{joinedList}
+use Rattle.joins.proofs.Whole.{read-room, triple-room, whole-room}
+use borrow.Author.Needs.{needs}
+use Rattle.joins.proofs.join_few.Statement.{statement}
+use Rattle.joins.proofs.join_few.Tie as tie
+
+slice-aggregate-join-in : tie.Need-slice-aggregate-join-in
+slice-aggregate-join-in c = search needs
+
+slice-aggregate-join-in-2 : tie.Need-slice-aggregate-join-in-2
+slice-aggregate-join-in-2 c = search needs
+
+slice-aggregate-join-in-3 : tie.Need-slice-aggregate-join-in-3
+slice-aggregate-join-in-3 c = search needs
+
+slice-aggregate-join-in-4 : tie.Need-slice-aggregate-join-in-4
+slice-aggregate-join-in-4 c = search needs
+
+slice-aggregate-join-in-5 : tie.Need-slice-aggregate-join-in-5
+slice-aggregate-join-in-5 c = search needs
+
+slice-aggregate-join-in-6 : tie.Need-slice-aggregate-join-in-6
+slice-aggregate-join-in-6 c = search needs
+
+slice-aggregate-join-in-7 : tie.Need-slice-aggregate-join-in-7
+slice-aggregate-join-in-7 c = search needs
+
+slice-aggregate-join-in-8 : tie.Need-slice-aggregate-join-in-8
+slice-aggregate-join-in-8 c = search needs
+
+slice-aggregate-join-in-9 : tie.Need-slice-aggregate-join-in-9
+slice-aggregate-join-in-9 c = search needs
+
+slice-aggregate-join-in-10 : tie.Need-slice-aggregate-join-in-10
+slice-aggregate-join-in-10 c = search needs
+
+slice-aggregate-join-in-11 : tie.Need-slice-aggregate-join-in-11
+slice-aggregate-join-in-11 c = search needs
+
+slice-aggregate-join-in-12 : tie.Need-slice-aggregate-join-in-12
+slice-aggregate-join-in-12 c = search needs
+
+join-in-requires : tie.Need-join-in-requires
+join-in-requires c κs =
+    let start = c .before .before .before .before .before .before .before .before .before .before .before .before .before in
+    let p = start .pre in (
+      p .0,
+      (
+        record {
+          is-ka = refl;
+          is-kb = refl;
+          is-kr = refl;
+          is-sa = refl;
+          is-sb = refl;
+          is-sc = refl;
+          is-sn = refl;
+          is-ta = refl;
+          is-tb = refl;
+          is-tc = refl;
+          is-tn = refl;
+          is-room = refl;
+        },
+        (p .1 .0, (omega arith, omega (arith, p .1 .1))),
+      ),
+    )
+
+same-length : tie.Need-same-length
+same-length c = search needs
+
+returns : tie.Need-returns
+returns c = search needs
+
+pub join-few-spec : {M : Type 1} → statement M
+join-few-spec =
+    tie.close
+    (tie.spec
+    slice-aggregate-join-in
+    slice-aggregate-join-in-2
+    slice-aggregate-join-in-3
+    slice-aggregate-join-in-4
+    slice-aggregate-join-in-5
+    slice-aggregate-join-in-6
+    slice-aggregate-join-in-7
+    slice-aggregate-join-in-8
+    slice-aggregate-join-in-9
+    slice-aggregate-join-in-10
+    slice-aggregate-join-in-11
+    slice-aggregate-join-in-12
+    join-in-requires
+    same-length
+    returns)
