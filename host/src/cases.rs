@@ -174,6 +174,52 @@ fn shells_apart(gap: i32, count: i32) -> Vec<Corner> {
     }))
 }
 
+/// The number by which the library spreads lines over its table, and the slots of that table.
+const SPREAD: u64 = 3_266_489_909;
+const SLOTS: u64 = 2_048;
+
+/// The slot at which the library's search for a line of the focus begins.
+fn slot(first: i32, second: i32) -> u64 {
+    let key = (first + 512) as u64 * 2_048 + (second + 512) as u64;
+    (key * SPREAD % (1 << 32) * SLOTS) >> 32
+}
+
+/// The step along the first or the second shift that moves a line least in the table.
+fn least_step(of: impl Fn(i32) -> u64) -> i32 {
+    let moved = |step: &i32| of(*step).min(SLOTS - of(*step));
+    (1..512).min_by_key(moved).unwrap_or(1)
+}
+
+/// Boxes behind each other whose lines along the focus crowd one part of the library's table of lines, so that the
+/// search there gives up: the slow case of the check.
+fn crowded(count: usize) -> Vec<Corner> {
+    let window = 2 * count as u64;
+    let zero = slot(-512, -512);
+    let steps = [
+        least_step(|step| slot(-512 + step, -512).wrapping_sub(zero) % SLOTS),
+        least_step(|step| slot(-512, -512 + step).wrapping_sub(zero) % SLOTS),
+    ];
+    let mut taken = std::collections::HashSet::new();
+    let mut found = Vec::new();
+    let mut at = -512;
+    for (first, second) in (-512..=512 - steps[0])
+        .flat_map(|first| (-512..=512 - steps[1]).map(move |second| (first, second)))
+    {
+        let ends = [[first, first + steps[0]], [second, second + steps[1]]];
+        let lines: Vec<[i32; 2]> = (0..4).map(|i| [ends[0][i >> 1], ends[1][i & 1]]).collect();
+        let good = |l: &[i32; 2]| slot(l[0], l[1]) < window && !taken.contains(l);
+        if found.len() == 8 * count || !lines.iter().all(good) {
+            continue;
+        }
+        for focus in [at, at + 1] {
+            found.extend(lines.iter().map(|l| Corner([focus, l[0], l[1]])));
+        }
+        taken.extend(lines);
+        at += 3;
+    }
+    found
+}
+
 /// Two maps of each shape with so many vertices.
 fn shapes(rng: &mut Rng, vertices: usize) -> Vec<Case> {
     let count = vertices / 8;
@@ -219,6 +265,17 @@ fn cases() -> Vec<Case> {
         .collect()
 }
 
+/// The slow cases of the check, valid and refused.
+fn slow_checks() -> Vec<Case> {
+    let mut rng = Rng::new(SEED);
+    let valid = [256, 1024].map(|vertices| {
+        let map = crowded(vertices / 8);
+        Case::of("crowded", [map.clone(), map], &mut rng)
+    });
+    let with_refused = |case: Case| [case.clone(), case.odd()];
+    valid.into_iter().flat_map(with_refused).collect()
+}
+
 /// The cases for functions other than the check: of the refused ones, the lumps.
 fn fewer(cases: &[Case]) -> Vec<Case> {
     let kept = |c: &&Case| !c.refused || c.name.starts_with("lump");
@@ -255,12 +312,12 @@ pub struct Cases {
 impl Cases {
     /// All cases.
     pub fn new() -> Cases {
-        let check = cases();
+        let all = cases();
         Cases {
-            join: for_joins(&check),
-            program: full(&check),
-            others: fewer(&check),
-            check,
+            join: for_joins(&all),
+            program: full(&all),
+            others: fewer(&all),
+            check: [all, slow_checks()].concat(),
         }
     }
 
