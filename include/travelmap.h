@@ -9,7 +9,8 @@
    pointer is aligned as int16_t is, and not null, also where the length is 0; as many numbers as the length says can
    be read there, and in a result written. A result shares no memory with a list or with another result. Beyond that
    every argument may have any value: a list need not be valid, and every number that is asked about may be any int16_t.
-   Nothing is kept after a call, no memory is taken, and functions may be called from several threads at once.
+   Nothing is kept after a call, no memory is taken, and functions may be called from several threads at once. Working
+   arrays stand on the stack: have 64 KB of it free for a call (measured: at most 46 KB; docs/BENCH.md).
 
    What comes back. Every function answers one uint64_t. Every answer but those of travelmap_plane and
    travelmap_nearest has

@@ -1,9 +1,10 @@
-//! The tables of what a call takes, as Markdown: times beside ordinary Rust, joins beside two sweeps of ordinary Rust,
-//! stack, and the size of the library.
+//! What calls take, as tables in Markdown: times beside ordinary Rust, joins beside two sweeps of ordinary Rust, stack, and
+//! the size of the library.
 
 use crate::cases::{Case, Cases, ASKED};
 use crate::functions::FUNCTIONS;
 use crate::lib_calls::EMULATED;
+use crate::summary::{growth_table, join_table, line_table, worst_table, Join, Line};
 use crate::{size, stack};
 use std::hint::black_box;
 use std::time::{Duration, Instant};
@@ -27,9 +28,9 @@ enum Measure {
 pub struct Table {
     measure: Measure,
     /// The lines of times so far.
-    pub lines: Vec<String>,
+    pub lines: Vec<Line>,
     /// The lines of joins so far.
-    pub joins: Vec<String>,
+    pub joins: Vec<Join>,
     /// The most stack so far, with the map that took it.
     pub deepest: (usize, String),
     /// The lines whose answers differ.
@@ -100,14 +101,13 @@ impl Table {
             best[0] = best[0].min(nanoseconds(&mut ours, calls[0]));
             best[1] = best[1].min(nanoseconds(&mut plain, calls[1]));
         }
-        self.lines.push(format!(
-            "| {function} | {} | {} | {:.0} | {:.0} | {:.2} |",
-            case.name,
-            case.vertices,
-            best[0],
-            best[1],
-            best[0] / best[1]
-        ));
+        self.lines.push(Line {
+            function: function.to_string(),
+            map: case.name.clone(),
+            vertices: case.vertices,
+            ours: best[0],
+            plain: best[1],
+        });
     }
 
     /// Adds the line of a join: all versions must give the same answer, and are then timed. `result` says what came.
@@ -137,16 +137,15 @@ impl Table {
             best[1] = best[1].min(nanoseconds(&mut lists, calls[1]));
             best[2] = best[2].min(nanoseconds(&mut rows, calls[2]));
         }
-        self.joins.push(format!(
-            "| {operation} | {} | {} | {result} | {:.0} | {:.0} | {:.2} | {:.0} | {:.2} |",
-            case.name,
-            case.vertices,
-            best[0],
-            best[1],
-            best[0] / best[1],
-            best[2],
-            best[0] / best[2]
-        ));
+        self.joins.push(Join {
+            operation: operation.to_string(),
+            maps: case.name.clone(),
+            vertices: case.vertices,
+            result: result.to_string(),
+            ours: best[0],
+            lists: best[1],
+            rows: best[2],
+        });
     }
 }
 
@@ -173,29 +172,16 @@ fn nanoseconds(call: &mut impl FnMut(usize) -> u64, calls: usize) -> f64 {
     start.elapsed().as_nanos() as f64 / calls as f64
 }
 
-/// Writes a table with a blank line behind it.
-fn write(head: &str, columns: &str, lines: &[String]) {
-    println!("{head}\n{columns}");
-    lines.iter().for_each(|line| println!("{line}"));
-    println!();
-}
-
 /// Times every function and writes the tables of times. Were all answers the same?
 fn times(cases: &Cases) -> bool {
     let mut table = Table::of_times(ROUND, ROUNDS);
     for function in FUNCTIONS {
         (function.time)(cases.of(function.name), &mut table);
     }
-    write(
-        "| function | map | vertices | ours, ns | Rust, ns | ratio |",
-        "|---|---|---:|---:|---:|---:|",
-        &table.lines,
-    );
-    write(
-        "| join | maps | vertices of each | result | ours, ns | Rust, lists, ns | ratio | Rust, rows of bits, ns | ratio |",
-        "|---|---|---:|---:|---:|---:|---:|---:|---:|",
-        &table.joins,
-    );
+    println!("{}", worst_table(&table.lines, &table.joins));
+    println!("{}", growth_table(&table.lines, &table.joins));
+    println!("{}", line_table(&table.lines));
+    println!("{}", join_table(&table.joins));
     if EMULATED {
         println!("The library ran under an emulator and behind a pipe: its times say nothing.\n");
     }
@@ -212,14 +198,17 @@ fn stacks(cases: &Cases) -> bool {
         return false;
     }
     let mut lines = Vec::new();
+    let mut measured = true;
     for function in FUNCTIONS {
         let mut table = Table::of_stack();
         (function.time)(cases.of(function.name), &mut table);
         let (bytes, map) = table.deepest;
+        measured &= bytes > 0 && bytes < stack::SIZE;
         lines.push(format!("| {} | {bytes} | {map} |", function.name));
     }
-    write("| function | stack, bytes | of |", "|---|---:|---|", &lines);
-    lines.len() == FUNCTIONS.len()
+    println!("| function | stack, bytes | of |\n|---|---:|---|");
+    println!("{}\n", lines.join("\n"));
+    measured
 }
 
 /// Writes the table of stack alone.

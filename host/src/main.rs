@@ -1,5 +1,6 @@
 //! Judges the travel map library and the program. Commands: compare (with a plain grid), maps (the same of a folder of
-//! inputs and answers), program (the same of a command), selftest (of the judge), bench (times, stack and size).
+//! inputs and answers), program (the same of a command), streams (a command's input and output), selftest (of the
+//! judge), bench (times, stack and size).
 
 mod bench;
 mod cases;
@@ -16,12 +17,15 @@ mod rng;
 mod selftest;
 mod size;
 mod stack;
+mod streams;
+mod summary;
 
 use std::process::ExitCode;
 
 const USAGE: &str = "host compare [CALLS [NAME...]]   compares every function (or those named) with a plain grid, CALLS times each
 host maps FOLDER [WORD...]       holds each NAME.answer to NAME.map, and the program to both, as linked and run as these words
 host program CALLS WORD...       compares a compiled program, run as these words for each of CALLS inputs
+host streams WORD...             tries the program with input that comes in pieces, and with outputs that take nothing
 host selftest                    checks that the comparison reports wrong answers, and no right ones
 host bench                       times every function beside ordinary Rust, and measures stack and size: Markdown tables
 host stack                       measures the stack of every function alone";
@@ -35,6 +39,7 @@ fn main() -> ExitCode {
         (Some("compare"), Ok(calls)) => compare::compare(calls, rest),
         (Some("maps"), _) if words.len() > 1 => functions::program::maps_command(&words[1], rest),
         (Some("program"), Ok(calls)) => functions::program::compare_command(calls, rest),
+        (Some("streams"), _) => streams::streams_command(&words[1..]),
         (Some("selftest"), _) => selftest::selftest(),
         (Some("bench"), _) => bench::bench(),
         (Some("stack"), _) => bench::stack_table(),

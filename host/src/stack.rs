@@ -4,8 +4,8 @@
 use std::ffi::c_void;
 use std::ptr::null_mut;
 
-/// The bytes of the painted stack.
-const SIZE: usize = 1 << 19;
+/// The bytes of the painted stack; where a call could not be made on it, it is said to have taken them all.
+pub const SIZE: usize = 1 << 19;
 /// What the stack is painted with; a byte that happens to be written with the one is seen with the other.
 const PAINTS: [u8; 2] = [0xA5, 0x5A];
 

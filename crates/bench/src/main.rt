@@ -144,8 +144,8 @@ fn slabs_line(n: usize, out: &mut [i16])
 {
     let mut along = [0i16; SLABS];
     let mut across = [0i16; SLABS];
-    maps::put_slabs(n, &mut along);
-    maps::put_crosswise(n, &mut across);
+    maps::put_slabs(n, false, &mut along);
+    maps::put_slabs(n, true, &mut across);
     join_line(b"11", OVERLAP, &along[..SLAB * n], &across[..SLAB * n], out);
 }
 

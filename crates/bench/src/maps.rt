@@ -1,5 +1,5 @@
 // The lists of the worked examples that are too long to stand where they are asked.
-ghost use Prim.Native.Nat.{_+_, _*_, _≤_};
+ghost use Prim.Native.Nat.{_+_, _*_, _≤_, _<_};
 ghost use lib.ListN.{length};
 
 // The numbers of the list of a box, of one less a vertex, of two cells apart, of two that touch in an edge, and of four vertices.
@@ -70,26 +70,27 @@ fn put_two(focus: usize, first: usize, at: usize, list: &mut [i16])
     put(&[x, y, 0, x, y, 1], at, list);
 }
 
-// Writes n slabs of focus 2i to 2i + 1, first shift 0 to 2n and second shift 0 to 1.
-pub fn put_slabs(n: usize, list: &mut [i16])
-    requires { ⌜ (n ≤ 12) × (24 * n ≤ length (now list)) ⌝ }
+// Writes the vertices of n slabs at their end number i: along focus, which goes from 2i to 2i + 1, first shift from 0 to 2n and second shift from
+// 0 to 1; or crosswise, with focus and first shift exchanged.
+fn put_end(n: usize, i: usize, crosswise: bool, list: &mut [i16])
+    requires { ⌜ (n ≤ 12) × (i < 2 * n) × (24 * n ≤ length (now list)) ⌝ }
 {
-    let mut i = 0;
-    while i < 2 * n {
+    if crosswise {
+        put_two(0, i, TWO * i, list);
+        put_two(2 * n, i, 2 * TWO * n + TWO * i, list);
+    } else {
         put_two(i, 0, 2 * TWO * i, list);
         put_two(i, 2 * n, 2 * TWO * i + TWO, list);
-        i += 1;
     }
 }
 
-// Writes n slabs crosswise: first shift 2i to 2i + 1, focus 0 to 2n and second shift 0 to 1.
-pub fn put_crosswise(n: usize, list: &mut [i16])
+// Writes n slabs, along focus or crosswise.
+pub fn put_slabs(n: usize, crosswise: bool, list: &mut [i16])
     requires { ⌜ (n ≤ 12) × (24 * n ≤ length (now list)) ⌝ }
 {
     let mut i = 0;
     while i < 2 * n {
-        put_two(0, i, TWO * i, list);
-        put_two(2 * n, i, 2 * TWO * n + TWO * i, list);
+        put_end(n, i, crosswise, list);
         i += 1;
     }
 }

@@ -3,6 +3,7 @@
 --   lowered-lifted, lifted-lowered        there and back
 --   lifted-once                           two numbers with one crossing are equal
 --   lowered-fits                          what comes back has 16 bits
+--   read-back                             a number that was read comes back from its bits
 --   isNumber-lifted, isCode-lifted        the ranges, after the crossing
 --   lifted-steps, lifted-number           the crossing of a number from the lowest up, or of a corner number, is its steps and 32256
 --   number-from, number-to                a corner number is from the lowest up, and at most the last
@@ -19,7 +20,8 @@ use lib.Dec.{leb, ltb, eqb}
 use lib.IntN.{ℤ, pos, negsuc}
 use lib.Signed.{leZ, ltZ, mag}
 use mir.Syntax.{w16}
-use mir.Val.{SFits}
+use mir.Val.{SFits, hbits, toZ, ofZ}
+use mir.ValLaws.{toZ-ofZ}
 use Rattle.meaning.specs.Numbers.{lowest, lastNumber, isCode, isNumber, number, steps}
 use Rattle.meaning.specs.Lists.{same}
 use Rattle.meaning.proofs.Integers as I
@@ -135,3 +137,8 @@ number-same a b = I.number-same a b ∙ leb-both a b
 
 pub isCode-number : (n : ℕ) → isCode (number n) ≡ leb n 1023
 isCode-number n = ap₂ _&&_ (number-le 0 n ∙ le-leb 0 n (omega arith)) (number-le n 1023)
+
+-- ---- a number that was read
+
+pub read-back : (z : ℤ) → mag z < 2 ^ hbits w16 → toZ w16 (ofZ w16 z) ≡ z
+read-back z h = toZ-ofZ w16 z (record { sfits = h })

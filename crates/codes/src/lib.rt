@@ -2,7 +2,7 @@
 // Inner: what other crates build on. It relies on the definitions of `meaning` alone.
 ghost use mathlib.Core.Path.{_≡_};
 ghost use mathlib.Core.Bool.{true};
-ghost use Prim.Native.Nat.{_+_, _*_, _<_};
+ghost use Prim.Native.Nat.{_+_, _*_, _<_, min};
 ghost use lib.IntN.{pos};
 ghost use lib.ListN.{length, getD};
 ghost use Rattle.meaning.specs.Numbers.{isNumber, isCorner, steps};
@@ -65,4 +65,11 @@ pub fn key_at(list: &[i16], i: usize) -> u32
     let y = steps_at(list, 3 * i + 1);
     let z = steps_at(list, 3 * i + 2);
     x * PLANE + y * LINE + z
+}
+
+// The lesser of two places.
+pub fn lesser(a: usize, b: usize) -> usize
+    ensures { λ r. ⌜ r ≡ min a b ⌝ }
+{
+    if a < b { a } else { b }
 }

@@ -24,7 +24,7 @@ use Rattle.meaning.specs.Verdicts.{verdict, passes, refusalNumber, refusalPlace
 use Rattle.meaning.specs.OneList.{oneList, onePairs}
 use Rattle.meaning.specs.Operations.{axisOf, sectionAt, lowerHalf, upperHalf, pairNumbers}
 use Rattle.meaning.specs.declared.Verdict.{Verdict}
-use Rattle.lists.specs.Box.{Values}
+use Rattle.meaning.specs.Values.{Values}
 use Rattle.cuts.specs.declared.Sectioned.{Sectioned}
 use Rattle.cuts.specs.declared.Sectioned.the-variants as section
 use Rattle.cuts.specs.declared.Halved.{Halved}

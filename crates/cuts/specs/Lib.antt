@@ -1,3 +1,2 @@
--- What must be believed: the promises of section and split, and document 01's values for their answers. Axes: inner definitions.
+-- What must be believed: the promises of section and split, and document 01's values for their answers.
 pub mod Answers
-pub mod Axes

@@ -1,5 +1,6 @@
 -- Laws of frames.
 --   value-..                 the value of a byte, by where it lies among the digits
+--   Values                   the values of the four bytes at a place
 --   four-ill, four-whole     four digits of which one is none; four digits
 --   line-..                  a line at a place, by what is found there; where there is one, its bytes are there
 --   together-..              three numbers of which one is ill formed
@@ -43,14 +44,17 @@ module _ (b : ℕ) where
 
 -- ---- four digits
 
-module _ (s : List ℕ) (at a b c d : ℕ)
-    (ea : a ≡ digitValue (byteAt s at))
-    (eb : b ≡ digitValue (byteAt s (at + 1)))
-    (ec : c ≡ digitValue (byteAt s (at + 2)))
-    (ed : d ≡ digitValue (byteAt s (at + 3))) where
-  pub four-is : fourOf a b c d ≡ fourAt s at
+-- a, b, c and d are the values of the four bytes at a place
+pub record Values (s : List ℕ) (at a b c d : ℕ) : Type 0 where
+  pub one : a ≡ digitValue (byteAt s at)
+  pub two : b ≡ digitValue (byteAt s (at + 1))
+  pub three : c ≡ digitValue (byteAt s (at + 2))
+  pub four : d ≡ digitValue (byteAt s (at + 3))
+
+module _ {s : List ℕ} {at a b c d : ℕ} (v : Values s at a b c d) where
+  four-is : fourOf a b c d ≡ fourAt s at
   unfolding fourAt
-  four-is = λ i. fourOf (ea i) (eb i) (ec i) (ed i)
+  four-is = λ i. fourOf (v .one i) (v .two i) (v .three i) (v .four i)
 
   pub four-ill₁ : 16 ≤ a → Ill ≡ fourAt s at
   four-ill₁ h = rw (le-ltb a 16 h) at four-is

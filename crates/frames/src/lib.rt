@@ -29,7 +29,10 @@ const DIGIT_VALUES: u16 = 16;
 const BASE: usize = 16;
 
 // The digits of a number.
-const DIGITS: usize = 4;
+pub const DIGITS: usize = 4;
+
+// The numbers of a vertex or a wish.
+pub const NUMBERS: usize = 3;
 
 // The bytes of a tag, where the three numbers of a line begin, and the bytes of a line beside its digits: the tag and the 0A.
 const TAG: usize = 2;
@@ -134,7 +137,7 @@ pub fn number_at(s: &[u8], tag: u8, at: usize) -> One
 pub fn numbers_at(s: &[u8], tag: u8, at: usize) -> Three
     ensures { λ r. ⌜ r ≡ threeAt (now (s .entry)) tag at ⌝ }
 {
-    if !line_at(s, tag, 3 * DIGITS, at) {
+    if !line_at(s, tag, NUMBERS * DIGITS, at) {
         return Three::Ill;
     }
     let One::Number(a) = four(s, at + TAG) else {

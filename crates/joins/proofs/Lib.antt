@@ -1,2 +1,2 @@
--- Laws of a whole join.
-pub mod Whole
+-- From the one list of an operation to what a join answers.
+pub mod Answers

@@ -1,11 +1,10 @@
 -- The promise of a join (document 01, "What can be asked", "Why a call comes back"). It names no engine.
---   joinedList             the one list of the cells of which the operation holds
+--   joinedList             the one list of the cells of which the operation holds (of `sweep/specs/Room.antt`)
 --   fitsIn                 a list that has no more vertices than a list may have, and no more numbers than the slice
 --   joinAnswer             8; then 1 to 5 of the first list, then of the second; then 6 or done, with the count of vertices
 --   joinContents           what the lent result holds at exit: the list at its front where the call is done, else what it held
 --   JoinMade               the promise: both
 --   joinValues             document 01's number, operand, place and count of each answer
---   Made, InRoom           inner: what an engine leaves, of two valid lists; the same where there is room for a given number of vertices
 use mathlib.Core.Path.{_≡_}
 use mathlib.Core.Bool.{Bool, _&&_, cond}
 use mathlib.Core.List.{List, _++_}
@@ -19,12 +18,10 @@ use Rattle.meaning.specs.Lists.{vertices, numbers, permitted, mostVertices}
 use Rattle.meaning.specs.OneList.{oneList}
 use Rattle.meaning.specs.Operations.{Operation, operation, join}
 use Rattle.meaning.specs.Verdicts.{verdict, passes, refusalNumber, refusalPlace}
-use Rattle.lists.specs.Box.{Values}
+use Rattle.meaning.specs.Values.{Values}
+pub use Rattle.sweep.specs.Room.{joinedList}
 use Rattle.joins.specs.declared.Joining.{Joining}
 use Rattle.joins.specs.declared.Joining.the-variants.{Done, BadOperation, FirstRefused, SecondRefused, NoRoom}
-
-abbrev pub joinedList : Operation → List ℤ → List ℤ → List Corner
-joinedList o a b = oneList (join o (permitted (vertices a)) (permitted (vertices b)))
 
 abbrev pub fitsIn : List Corner → ℕ → Bool
 fitsIn l room = leb (length l) mostVertices && leb (3 * length l) room
@@ -35,22 +32,6 @@ madeAnswer l room = cond (fitsIn l room) (Done (length l)) NoRoom
 
 abbrev pub madeContents : List Corner → List ℤ → List ℤ
 madeContents l before = cond (fitsIn l (length before)) (numbers l ++ drop (3 * length l) before) before
-
--- inner: the same where there is room for a given number of vertices
-abbrev pub roomAnswer : List Corner → ℕ → Joining
-roomAnswer l most = cond (leb (length l) most) (Done (length l)) NoRoom
-
-abbrev pub roomContents : List Corner → ℕ → List ℤ → List ℤ
-roomContents l most before = cond (leb (length l) most) (numbers l ++ drop (3 * length l) before) before
-
--- inner: what the engines leave, of two valid lists and an operation's number
-abbrev pub Made : ℕ → List ℤ → List ℤ → List ℤ → Joining → List ℤ → Type 0
-Made op a b before r after =
-    (o : Operation) → operation op ≡ some o → (r ≡ madeAnswer (joinedList o a b) (length before)) × (after ≡ madeContents (joinedList o a b) before)
-
-abbrev pub InRoom : ℕ → List ℤ → List ℤ → ℕ → List ℤ → Joining → List ℤ → Type 0
-InRoom op a b most before r after =
-    (o : Operation) → operation op ≡ some o → (r ≡ roomAnswer (joinedList o a b) most) × (after ≡ roomContents (joinedList o a b) most before)
 
 abbrev pub answerBy : Option Operation → List ℤ → List ℤ → ℕ → Joining
 answerBy none a b room = BadOperation

@@ -1,3 +1,2 @@
--- Joins: the promise (Join), and the working room of the engine (Room).
+-- Joins: the promise.
 pub mod Join
-pub mod Room

@@ -1,4 +1,6 @@
 -- Rising lists of keys and the corners that they stand for.
+--   last-axis                            the axis of a number that is neither 0 nor 1
+--   part-number, part-ok                 a key's part on an axis is that of its corner, and at most 1024 where the key is in range
 --   keys-ok, keys-back, keys-rise        of a list of corners: its keys are in range and give the corners back; they rise where it rises
 --   corners-of, rising-of                of keys in range: their corners are corners; they rise where the keys rise
 --   permitted-keys, permitted-corners    what the corners of some keys permit, and what corners permit by their keys: a sum over the keys
@@ -8,12 +10,13 @@
 use mathlib.Core.Path.{_≡_, refl, sym, _∙_, ap, ap₂, subst}
 use mathlib.Core.Bool.{Bool, true, false, _&&_, true≢false}
 use mathlib.Core.List.{List, [], _∷_, map}
-use Prim.Native.Nat.{ℕ, suc, _≤_}
+use Prim.Native.Nat.{ℕ, zero, suc, _≤_}
 use native.Mathlib.Omega.{arith}
 use borrow.Author.Tests.{ltb-true, lt-ltb}
 use lib.Dec.{ltb}
 use lib.Signed.{leZ}
-use Rattle.meaning.specs.Numbers.{Axis, focus, first, second, Cell, Corner, cell, codeOn, numberOn, squareOf, pairOf, isCode, isCell, isCorner, lowest, number, steps}
+use Rattle.meaning.specs.Numbers.{Axis, focus, first, second, Cell, Corner, cell, codeOn, numberOn, squareOf, pairOf}
+use Rattle.meaning.specs.Numbers.{isCode, isCell, isCorner, lowest, number, steps}
 use Rattle.meaning.specs.Counting.{All}
 use Rattle.meaning.specs.Lists.{atOrBelow, permitted, Rising}
 use Rattle.meaning.specs.OneList.{oneList, WithinCodes}
@@ -25,10 +28,27 @@ use Rattle.codes.specs.Keys.{keyOf, ofKey, planeOf, restOf, lineOf, lastOf}
 use Rattle.codes.proofs.Laws.{number-le}
 use Rattle.codes.proofs.Keys.{within, key-plane, key-line, key-last, ofKey-keyOf, keyOf-ofKey, corner-ofKey, below-key}
 use Rattle.rising.specs.Merged.{From}
-use Rattle.keys.specs.Parts.{KeyOk, keyFits}
+use Rattle.keys.specs.Parts.{KeyOk, axisAt, partOn, keyFits}
 
 abbrev pub Corners : List Corner → Type 0
 Corners l = All (λ v. isCorner v ≡ true) l
+
+-- ---- parts on an axis
+
+pub last-axis : (n : ℕ) → (n ≡ 0 → ⊥) → (n ≡ 1 → ⊥) → axisAt n ≡ second
+last-axis zero h k = absurd (h refl)
+last-axis (suc zero) h k = absurd (k refl)
+last-axis (suc (suc n)) h k = refl
+
+pub part-number : (axis : Axis) (k : ℕ) → numberOn axis (ofKey k) ≡ number (partOn axis k)
+part-number focus k = refl
+part-number first k = refl
+part-number second k = refl
+
+pub part-ok : (axis : Axis) (k : ℕ) → KeyOk k → partOn axis k ≤ 1024
+part-ok focus k h = h .0
+part-ok first k h = h .1 .0
+part-ok second k h = h .1 .1
 
 -- ---- from corners to keys
 
@@ -98,11 +118,6 @@ module _ (S : Cell → Bool) (h : WithinCodes S) (axis : Axis) (c : Cell) (e : l
   outside-set =
       not-yes (S c) (λ k. true≢false (sym (and-left (leZ lowest (codeOn axis c)) _ (code-on axis c (h c k))) ∙ e))
 
-number-on : (axis : Axis) (k : ℕ) → (n : ℕ) × (numberOn axis (ofKey k) ≡ number n)
-number-on focus k = (planeOf k, refl)
-number-on first k = (lineOf (restOf k), refl)
-number-on second k = (lastOf (restOf k), refl)
-
 outside-keys : (axis : Axis) (c : Cell) → leZ lowest (codeOn axis c) ≡ false → (ks : List ℕ) → permitted (map ofKey ks) c ≡ false
 outside-keys axis c e ks =
     permitted-sum (map ofKey ks) c ∙
@@ -112,9 +127,9 @@ outside-keys axis c e ks =
   where
     none : (k : ℕ) → atOrBelow c (ofKey k) ≡ false
     none k =
-        let (n, is) = number-on axis k in
         along axis c (ofKey k) ∙
-        ap (_&& plane .fits (squareOf axis c) (pairOf axis (ofKey k))) (ap (λ z. leZ z (codeOn axis c)) is ∙ under-lowest n (codeOn axis c) e)
+        ap (_&& plane .fits (squareOf axis c) (pairOf axis (ofKey k)))
+        (ap (λ z. leZ z (codeOn axis c)) (part-number axis k) ∙ under-lowest (partOn axis k) (codeOn axis c) e)
 
 -- a set within the codes and the corners of some keys agree where they agree on the cells that are given by steps
 pub within-by-steps : (S : Cell → Bool) → WithinCodes S → (ks : List ℕ) → ((a b d : ℕ) → sum (keyFits a b d) ks ≡ S (cell (number a) (number b) (number d)))

@@ -17,14 +17,11 @@ use mir.Syntax.{w16}
 use mir.Val.{toZ, ofZ}
 use mir.ValLaws.{toZ-ofZ}
 use Rattle.meaning.specs.Numbers.{isCorner, number}
-use Rattle.meaning.specs.Counting.{All}
-use Rattle.meaning.specs.Lists.{vertices, numbers}
-use Rattle.meaning.specs.Operations.{pairNumbers}
-use Rattle.codes.specs.Keys.{keyOf, cornerAt, ofKey, planeOf, restOf, lineOf, lastOf}
-use Rattle.rising.proofs.Written.{Written, none, one, to-come, all}
+use Rattle.meaning.specs.Lists.{vertices}
+use Rattle.codes.specs.Keys.{keyOf, cornerAt}
+use Rattle.rising.proofs.Written.{next-at, Written, none, one, setAll, past, several, to-come, all}
 use Rattle.codes.specs.Lift.{lowered}
 use Rattle.codes.proofs.Laws.{lifted-lowered, lifted-number, lifted-once, lowered-fits, number-fits, isNumber-number, steps-number}
-use Rattle.keys.specs.Parts.{KeyOk, PairOk, pairOfKey}
 use Rattle.keys.proofs.Corners.{Corners}
 
 -- ---- vertices from a place on
@@ -99,65 +96,32 @@ stored r n h e =
 
 -- ---- keys spelled out, so many numbers each
 
-pub record Spelling (width : ℕ) (spell : List ℕ → List ℤ) (Ok : ℕ → Type 0) (keys : List ℕ) (before now : List ℤ) (i n : ℕ) : Type 0 where
+pub record Spelling (width : ℕ) (spell : List ℕ → List ℤ) (keys : List ℕ) (before now : List ℤ) (i n : ℕ) : Type 0 where
   pub read : i ≤ length keys
   pub place : n ≡ width * i
-  pub good : All Ok (drop i keys)
   pub room : width * length keys ≤ length before
   pub written : Written (spell keys) (spell (drop i keys)) before now n
 
-module _ (width : ℕ) (spell : List ℕ → List ℤ) (Ok : ℕ → Type 0) (keys : List ℕ) (before : List ℤ) where
-  pub spelling-begins : All Ok keys → width * length keys ≤ length before → Spelling width spell Ok keys before before 0 0
-  spelling-begins h k =
-      record { read = omega arith; place = sym (mul-zero width); good = h; room = k; written = none _ before }
+module _ (width : ℕ) (spell : List ℕ → List ℤ) (keys : List ℕ) (before : List ℤ) where
+  pub spelling-begins : width * length keys ≤ length before → Spelling width spell keys before before 0 0
+  spelling-begins h = record { read = omega arith; place = sym (mul-zero width); room = h; written = none _ before }
 
-  module _ (now : List ℤ) (i n : ℕ) (m : Spelling width spell Ok keys before now i n) where
-    pub next-key : i < length keys → drop i keys ≡ getD keys i 0 ∷ drop (i + 1) keys
-    next-key h = drop-cons keys i 0 h ∙ ap (λ k. getD keys i 0 ∷ drop k keys) (sym (add-one i))
-
-    pub next-good : i < length keys → Ok (getD keys i 0)
-    next-good h = subst (All Ok) (next-key h) (m .good) .0
-
-    pub rest-good : i < length keys → All Ok (drop (i + 1) keys)
-    rest-good h = subst (All Ok) (next-key h) (m .good) .1
+  module _ (now : List ℤ) (i n : ℕ) (m : Spelling width spell keys before now i n) where
+    -- the numbers of the next key
+    pub spells : i < length keys → (xs : List ℤ) → past n xs ≡ width * (i + 1) → n + length xs ≤ length before
+        → {ys : List ℤ} → ys ≡ xs → spell (getD keys i 0 ∷ drop (i + 1) keys) ≡ ys ++ spell (drop (i + 1) keys)
+        → Spelling width spell keys before (setAll now n xs) (i + 1) (past n xs)
+    spells h xs p r q e =
+        let rest = spell (drop (i + 1) keys) in
+        record {
+          read = omega arith;
+          place = p;
+          room = m .room;
+          written = several xs (to-come (xs ++ rest) (m .written) (ap spell (next-at keys i h) ∙ e ∙ ap (_++ rest) q)) r;
+        }
 
     pub spelling-ends : spell [] ≡ [] → length keys ≤ i → now ≡ spell keys ++ drop (width * length keys) before
     spelling-ends e h =
         let r = all (to-come [] (m .written) (ap spell (drop-of-length-le keys h) ∙ e)) in
         let is : i ≡ length keys = omega (arith, m .read) in
         r .1 ∙ ap (λ k. spell keys ++ drop k before) (m .place ∙ ap (λ k. width * k) is)
-
--- a corner's three numbers
-module _ (keys : List ℕ) (before now : List ℤ) (i n : ℕ) (m : Spelling 3 (λ l. numbers (map ofKey l)) KeyOk keys before now i n) (h : i < length keys) where
-  pub spells-corner : (x y z : ℤ) → x ≡ number (planeOf (getD keys i 0)) → y ≡ number (lineOf (restOf (getD keys i 0))) → z ≡ number (lastOf (restOf (getD keys i 0)))
-      → Spelling 3 (λ l. numbers (map ofKey l)) KeyOk keys before (set (set (set now n x) (n + 1) y) (n + 1 + 1) z) (i + 1) (n + 1 + 1 + 1)
-  spells-corner x y z ex ey ez =
-      let e = next-key 3 (λ l. numbers (map ofKey l)) KeyOk keys before now i n m h in
-      let rest = numbers (map ofKey (drop (i + 1) keys)) in
-      let w = to-come (x ∷ y ∷ z ∷ rest) (m .written) (ap (λ l. numbers (map ofKey l)) e ∙ λ j. sym ex j ∷ sym ey j ∷ sym ez j ∷ rest) in
-      let w₁ = one x w (omega (arith, m .room, m .place, m .written .long)) in
-      let w₂ = one y w₁ (omega (arith, m .room, m .place, w₁ .long)) in
-      record {
-        read = omega arith;
-        place = omega (arith, m .place);
-        good = rest-good 3 (λ l. numbers (map ofKey l)) KeyOk keys before now i n m h;
-        room = m .room;
-        written = one z w₂ (omega (arith, m .room, m .place, w₂ .long));
-      }
-
--- a pair's two numbers
-module _ (keys : List ℕ) (before now : List ℤ) (i n : ℕ) (m : Spelling 2 (λ l. pairNumbers (map pairOfKey l)) PairOk keys before now i n) (h : i < length keys) where
-  pub spells-pair : (x y : ℤ) → x ≡ number (lineOf (getD keys i 0)) → y ≡ number (lastOf (getD keys i 0))
-      → Spelling 2 (λ l. pairNumbers (map pairOfKey l)) PairOk keys before (set (set now n x) (n + 1) y) (i + 1) (n + 1 + 1)
-  spells-pair x y ex ey =
-      let e = next-key 2 (λ l. pairNumbers (map pairOfKey l)) PairOk keys before now i n m h in
-      let rest = pairNumbers (map pairOfKey (drop (i + 1) keys)) in
-      let w = to-come (x ∷ y ∷ rest) (m .written) (ap (λ l. pairNumbers (map pairOfKey l)) e ∙ λ j. sym ex j ∷ sym ey j ∷ rest) in
-      let w₁ = one x w (omega (arith, m .room, m .place, m .written .long)) in
-      record {
-        read = omega arith;
-        place = omega (arith, m .place);
-        good = rest-good 2 (λ l. pairNumbers (map pairOfKey l)) PairOk keys before now i n m h;
-        room = m .room;
-        written = one y w₁ (omega (arith, m .room, m .place, w₁ .long));
-      }

@@ -73,7 +73,8 @@ squares-by-steps S h ks e s = go (leZ lowest (s .one)) refl (leZ lowest (s .two)
         let x = number-steps (s .one) p in
         let y = number-steps (s .two) q in
         let is : square (number (steps (s .one))) (number (steps (s .two))) ≡ s = λ i. square (x i) (y i) in
-        subst (λ (r : Square). permits plane (map pairOfKey ks) r ≡ S r) is (permits-pairs (steps (s .one)) (steps (s .two)) ks ∙ e (steps (s .one)) (steps (s .two)))
+        subst (λ (r : Square). permits plane (map pairOfKey ks) r ≡ S r) is
+        (permits-pairs (steps (s .one)) (steps (s .two)) ks ∙ e (steps (s .one)) (steps (s .two)))
 
 pub one-pair-keys : (S : Square → Bool) → SquaresWithin S → (ks : List ℕ) → From 0 ks
     → ((b d : ℕ) → sum (pairFits b d) ks ≡ S (square (number b) (number d))) → map pairOfKey ks ≡ onePairs S

@@ -10,13 +10,33 @@ ghost use Rattle.meaning.specs.Counting.{All};
 ghost use Rattle.meaning.specs.Lists.{vertices, numbers};
 ghost use Rattle.meaning.specs.Operations.{pairNumbers};
 ghost use Rattle.codes.specs.Keys.{keyOf, ofKey};
-ghost use Rattle.keys.specs.Parts.{KeyOk, PairOk, pairOfKey};
+ghost use Rattle.keys.specs.Parts.{KeyOk, PairOk, pairOfKey, axisAt, partOn};
 use codes::LINE;
 use codes::LOWEST;
 use codes::PLANE;
 
+// The axes by their numbers.
+pub const FOCUS: u32 = 0;
+
+pub const FIRST_SHIFT: u32 = 1;
+
+pub const SECOND_SHIFT: u32 = 2;
+
 // The numbers of a vertex.
 const NUMBERS: usize = 3;
+
+// How many steps above the lowest a key's corner lies on an axis.
+pub fn part_on(key: u32, axis: u32) -> u32
+    ensures { λ r. ⌜ r ≡ partOn (axisAt axis) key ⌝ }
+{
+    if axis == FOCUS {
+        return key / PLANE;
+    }
+    if axis == FIRST_SHIFT {
+        return key % PLANE / LINE;
+    }
+    key % PLANE % LINE
+}
 
 // Writes the keys of a list's vertices to the front of out, and answers how many there are.
 pub fn read(list: &[i16], out: &mut [u32]) -> usize

@@ -1,4 +1,2 @@
 -- Laws that the proofs of this crate cite, and that others may.
-pub mod Parity
-pub mod First
 pub mod Table

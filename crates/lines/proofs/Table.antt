@@ -5,23 +5,22 @@
 --   entry-flips, flipped      the store of that entry flips the key, and no other
 --   holds-next, holds-all     a table that holds what was read: with one key more; with all of them
 --   holds-none, holds-empty   a table with no live entry of a key does not hold it; a table of zeros holds nothing
---   Scanned, and its laws     no slot so far has a live entry of a key before a place
---   unheld-even               what the table does not hold occurs an even number of times
-use mathlib.Core.Path.{_≡_, refl, ap, sym, _∙_}
+--   none-live                 where no entry is live, every key occurs an even number of times
+--   parted-keyed              keys in parts have entries
+use mathlib.Core.Path.{_≡_, refl, sym, _∙_}
 use mathlib.Core.Logic.{_⊎_, inl, inr}
 use mathlib.Core.Bool.{Bool, true, false, xor}
 use mathlib.Core.List.{List, [], _∷_}
 use Prim.Native.Nat.{ℕ, zero, suc, _+_, _*_, _-_, _/_, _%_, _<_, _≤_}
-use native.Mathlib.Nat.{mul-lt-mul-of-pos-right, le-refl}
+use native.Mathlib.Nat.{mul-lt-mul-of-pos-right}
 use native.Mathlib.Omega.{arith}
 use lib.Dec.{eqb}
 use lib.ListN.{length, getD, set, take, replicate, length-replicate, getD-replicate}
-use borrow.Author.Count.{below-more}
 use borrow.Author.Tests.{eq-eqb, ne-eqb, eqb-true, eqb-false}
 use Rattle.meaning.specs.Counting.{count, odd}
-use Rattle.lines.specs.Table.{range, live, holds, Flipped, Holds, Absent, NoneBefore}
-use Rattle.lines.specs.Odd.{occursOddly}
-use Rattle.lines.proofs.Parity.{xor-assoc, xor-comm, xor-left, xor-self, false-xor, odd-cons, odd-read, odd-whole}
+use Rattle.lines.specs.Table.{range, keyed, live, holds, Flipped, Holds, NoneOdd}
+use Rattle.chains.specs.Chains.{Parted}
+use Rattle.chains.proofs.Parity.{xor-assoc, xor-comm, xor-left, xor-self, false-xor, odd-cons, odd-read, odd-whole}
 
 pub spread-below : (x s : ℕ) → 0 < s → x % range * s < range * s
 spread-below x s h = mul-lt-mul-of-pos-right (omega arith) h
@@ -72,7 +71,9 @@ unfolding holds
 flipped t₀ t at key same h may = record { every = at-key }
   where
     at-key : (j : ℕ) → holds (set t at (flippedEntry key (getD t at 0))) j ≡ xor (holds t₀ j) (eqb j key)
-    at-key j = rw (← same, odd-set (λ e. eqb (live j) e) t at (flippedEntry key (getD t at 0)) h, entry-flips j key (getD t at 0) may) (xor-comm (eqb j key) (holds t j))
+    at-key j =
+        rw (← same, odd-set (λ e. eqb (live j) e) t at (flippedEntry key (getD t at 0)) h, entry-flips j key (getD t at 0) may)
+        (xor-comm (eqb j key) (holds t j))
 
 pub holds-next : (keys t u : List ℕ) (i : ℕ) → i < length keys → Holds t (take i keys) → Flipped (getD keys i 0) t u
     → Holds u (take (i + 1) keys)
@@ -95,34 +96,11 @@ holds-empty n = record { every = λ j. holds-none (replicate n 0) j (λ s h q. o
     zero-at : (s : ℕ) → s < length {A = ℕ} (replicate n 0) → getD {A = ℕ} (replicate n 0) s 0 ≡ 0
     zero-at s h = getD-replicate n s 0 0 (rw length-replicate at h)
 
--- the slots so far have no live entry of a key before a place
-pub record Scanned (table keys : List ℕ) (slot place : ℕ) : Type 0 where
-  pub slots : slot ≤ length table
-  pub within : place ≤ length keys
-  pub absent : (s : ℕ) → s < slot → Absent keys place (getD table s 0)
+-- a table with no live entry holds nothing: what it was filled with occurs an even number of times
+pub none-live : {table keys : List ℕ} → Holds table keys → ((s : ℕ) → s < length table → getD table s 0 % 2 ≡ 0) → NoneOdd keys
+none-live {table} {keys} is even k h =
+    sym (is .every (getD keys k 0)) ∙ holds-none table (getD keys k 0) (λ s m q. omega (arith, even s m))
 
-module _ {table keys : List ℕ} {slot place : ℕ} where
-  -- one slot more, with a place that may have come down
-  pub scanned-more : {down : ℕ} → Scanned table keys slot place → slot < length table
-      → (down ≤ place) × Absent keys down (getD table slot 0)
-      → Scanned table keys (slot + 1) down
-  scanned-more was h here = record {
-    slots = omega arith;
-    within = omega arith;
-    absent = below-more _ slot (λ s l k m. was .absent s l k (omega arith)) (here .1);
-  }
-
-  pub scanned-all : Scanned table keys slot place → length table ≤ slot → NoneBefore table keys place
-  scanned-all was h =
-      record { within = was .within; unheld = λ k l. holds-none table (getD keys k 0) (λ s m. was .absent s (omega arith) k l) }
-
--- a table with no live entry at all
-pub scanned-even : (table keys : List ℕ) → ((s : ℕ) → s < length table → getD table s 0 % 2 ≡ 0)
-    → NoneBefore table keys (length keys)
-scanned-even table keys even =
-    record { within = le-refl _; unheld = λ k l. holds-none table (getD keys k 0) (λ s m q. omega (arith, even s m)) }
-
--- what the table does not hold occurs an even number of times
-pub unheld-even : {table keys : List ℕ} {place : ℕ} → Holds table keys → NoneBefore table keys place
-    → (k : ℕ) → k < place → occursOddly keys k ≡ false
-unheld-even is none k h = sym (is .every _) ∙ none .unheld k h
+-- a key in parts has entries that fit 32 bits
+pub parted-keyed : (keys : List ℕ) → Parted keys → (i : ℕ) → i < length keys → keyed (getD keys i 0)
+parted-keyed keys fit i h = omega (arith, fit i h .0)

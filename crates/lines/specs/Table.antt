@@ -6,15 +6,15 @@
 --   holds        whether the table has an odd number of live entries of a key
 --   Flipped      a key was put in or taken out: what the table holds of it has changed, and of no other key
 --   Holds        the table holds just the keys that occur an odd number of times in a list
---   Absent       an entry is not the live one of any key before a place
---   NoneBefore   the table holds no key before a place
+--   NoneOdd      no key of a list occurs an odd number of times in it
 use mathlib.Core.Path.{_≡_}
 use mathlib.Core.Bool.{Bool, false, xor}
 use mathlib.Core.List.{List}
-use Prim.Native.Nat.{ℕ, _+_, _*_, _<_, _≤_}
+use Prim.Native.Nat.{ℕ, _+_, _*_, _<_}
 use lib.Dec.{eqb}
-use lib.ListN.{length, getD}
+use lib.ListN.{length}
 use Rattle.meaning.specs.Counting.{count, odd}
+use Rattle.chains.specs.Odd.{occursOddly}
 
 abbrev pub range : ℕ
 range = 4294967296
@@ -38,9 +38,5 @@ pub record Flipped (key : ℕ) (table after : List ℕ) : Type 0 where
 pub record Holds (table keys : List ℕ) : Type 0 where
   pub every : (j : ℕ) → holds table j ≡ odd (count (λ k. eqb j k) keys)
 
-abbrev pub Absent : List ℕ → ℕ → ℕ → Type 0
-Absent keys place entry = (k : ℕ) → k < place → entry ≡ live (getD keys k 0) → ⊥
-
-pub record NoneBefore (table keys : List ℕ) (place : ℕ) : Type 0 where
-  pub within : place ≤ length keys
-  pub unheld : (k : ℕ) → k < place → holds table (getD keys k 0) ≡ false
+abbrev pub NoneOdd : List ℕ → Type 0
+NoneOdd keys = (k : ℕ) → k < length keys → occursOddly keys k ≡ false

@@ -1,6 +1,6 @@
 // Lines with an odd number of vertices: of a slice of numbers, the first place whose number occurs an odd number of times.
-// Inner: what crates of the library lend each other. It relies on no order of the numbers and on no property of the hashing:
-// a table that has no room, or that says something doubtful, gives way to counting.
+// Inner: what crates of the library lend each other. A table of hashed keys is quick to show that every key occurs an even number of times.
+// Where it does not, chains find the place. Nothing relies on an order of the numbers or on a property of the hashing.
 
 use meaning::MOST_VERTICES;
 ghost use mathlib.Core.Path.{_≡_};
@@ -10,8 +10,10 @@ ghost use Prim.Native.Nat.{ℕ, _<_, _≤_, _%_};
 ghost use lib.Dec.{eqb};
 ghost use lib.ListN.{length, getD};
 ghost use Rattle.meaning.specs.Counting.{count, odd};
-ghost use Rattle.lines.specs.Odd.{firstOdd};
-ghost use Rattle.lines.specs.Table.{range, keyed, Room, Flipped, Holds, Absent, NoneBefore};
+ghost use Rattle.meaning.specs.Lists.{mostVertices};
+ghost use Rattle.chains.specs.Odd.{firstOdd};
+ghost use Rattle.chains.specs.Chains.{Parted};
+ghost use Rattle.lines.specs.Table.{range, keyed, Room, Flipped, Holds, NoneOdd};
 
 // Up to so many keys are counted, with no table.
 const FEW: usize = 16;
@@ -22,11 +24,9 @@ const SMALL: usize = 256;
 // The slots of the large table.
 const LARGE: usize = 2 * MOST_VERTICES;
 // A search of a table gives up after so many slots.
-const TRIES: usize = 64;
+const TRIES: usize = 16;
 // What is answered where a key did not get into the table.
 const GAVE_UP: bool = false;
-// Keys from here on have no entry: twice the key and 3 must fit 32 bits.
-const KEYS: u32 = 2147483647;
 // An odd number without a pattern, by which keys are spread over the slots.
 const SPREAD: u64 = 3266489909;
 // The range in which they are spread: what 32 bits hold.
@@ -97,18 +97,15 @@ fn flip(table: &mut [u32], key: u32) -> bool
     GAVE_UP
 }
 
-// Flips every key, unless a search gives up or a key has no entry.
+// Flips every key, unless a search gives up.
 fn fill(table: &mut [u32], keys: &[u32]) -> bool
+    requires { ⌜ Parted (now keys) ⌝ }
     requires { ⌜ Holds (now table) [] × Room (length (now table)) ⌝ }
     ensures { λ r. ⌜ (r ≡ true → Holds (now (table .exit)) (now (keys .entry))) ⌝ }
 {
     let mut done = 0;
     while done < keys.len() {
-        let key = keys[done];
-        if KEYS <= key {
-            return GAVE_UP;
-        }
-        if !flip(table, key) {
+        if !flip(table, keys[done]) {
             return GAVE_UP;
         }
         done += 1;
@@ -130,88 +127,57 @@ fn count_live(table: &[u32]) -> u32
     live
 }
 
-// The first place before an end of the key whose live entry this is, or that end.
-fn place_of(keys: &[u32], entry: u32, end: usize) -> usize
-    requires { ⌜ end ≤ length (now keys) ⌝ }
-    ensures { λ r. ⌜ (r ≤ end) × Absent (now (keys .entry)) r entry ⌝ }
-{
-    if entry % 2 == 0 {
-        return end;
-    }
-    let half = entry / 2;
-    if half == 0 {
-        return end;
-    }
-    let key = half - 1;
-    let mut i = 0;
-    while i < end {
-        if keys[i] == key {
-            return i;
-        }
-        i += 1;
-    }
-    end
-}
-
-// The first place of a key that has a live entry, or the length.
-fn first_live(keys: &[u32], table: &[u32]) -> usize
-    requires { ⌜ length (now table) < range ⌝ }
-    ensures { λ r. ⌜ NoneBefore (now (table .entry)) (now (keys .entry)) r ⌝ }
-{
-    let mut place = keys.len();
-    if count_live(table) == 0 {
-        return place;
-    }
-    let mut s = 0;
-    while s < table.len() {
-        place = place_of(keys, table[s], place);
-        s += 1;
-    }
-    place
-}
-
-// The first place whose key occurs an odd number of times, or the length, by way of an empty table.
-fn first_by_table(keys: &[u32], table: &mut [u32]) -> usize
+// Whether an empty table shows that every key occurs an even number of times. It may give up, and then says no.
+fn even_by_table(keys: &[u32], table: &mut [u32]) -> bool
+    requires { ⌜ Parted (now keys) ⌝ }
     requires { ⌜ Holds (now table) [] × Room (length (now table)) ⌝ }
-    ensures { λ r. ⌜ r ≡ firstOdd (now (keys .entry)) ⌝ }
+    ensures { λ r. ⌜ (r ≡ true → NoneOdd (now (keys .entry))) ⌝ }
 {
-    if fill(table, keys) {
-        let place = first_live(keys, table);
-        if keys.len() <= place {
-            return place;
-        }
-        if occurs_oddly(keys, keys[place]) {
-            return place;
-        }
+    if !fill(table, keys) {
+        return false;
     }
-    first_by_counting(keys)
+    count_live(table) == 0
 }
 
 // The same by way of the small table.
-fn first_by_small(keys: &[u32]) -> usize
-    ensures { λ r. ⌜ r ≡ firstOdd (now (keys .entry)) ⌝ }
+fn even_by_small(keys: &[u32]) -> bool
+    requires { ⌜ Parted (now keys) ⌝ }
+    ensures { λ r. ⌜ (r ≡ true → NoneOdd (now (keys .entry))) ⌝ }
 {
     let mut table = [0; SMALL];
-    first_by_table(keys, &mut table)
+    even_by_table(keys, &mut table)
 }
 
 // The same by way of the large table.
-fn first_by_large(keys: &[u32]) -> usize
-    ensures { λ r. ⌜ r ≡ firstOdd (now (keys .entry)) ⌝ }
+fn even_by_large(keys: &[u32]) -> bool
+    requires { ⌜ Parted (now keys) ⌝ }
+    ensures { λ r. ⌜ (r ≡ true → NoneOdd (now (keys .entry))) ⌝ }
 {
     let mut table = [0; LARGE];
-    first_by_table(keys, &mut table)
+    even_by_table(keys, &mut table)
+}
+
+// The same by way of the table that has room.
+fn shown_even(keys: &[u32]) -> bool
+    requires { ⌜ Parted (now keys) ⌝ }
+    ensures { λ r. ⌜ (r ≡ true → NoneOdd (now (keys .entry))) ⌝ }
+{
+    if keys.len() <= SOME {
+        return even_by_small(keys);
+    }
+    even_by_large(keys)
 }
 
 // The first place whose key occurs an odd number of times, or the length where there is none.
 pub fn first_odd(keys: &[u32]) -> usize
+    requires { ⌜ Parted (now keys) × (length (now keys) ≤ mostVertices) ⌝ }
     ensures { λ r. ⌜ r ≡ firstOdd (now (keys .entry)) ⌝ }
 {
     if keys.len() <= FEW {
         return first_by_counting(keys);
     }
-    if keys.len() <= SOME {
-        return first_by_small(keys);
+    if shown_even(keys) {
+        return keys.len();
     }
-    first_by_large(keys)
+    chains::first_by_chains(keys)
 }

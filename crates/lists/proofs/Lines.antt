@@ -3,6 +3,7 @@
 --   Offsets          the offsets, in a vertex, of the two numbers that are left when an axis is left out
 --   filled-none, filled-more     the working list, one place after the other
 --   pairAt-key       the two numbers at an axis's offsets, as one number, are the pair key
+--   filled-parted    a filled working list is one of keys in two parts
 --   keys-filled      a filled working list is the list of pair keys
 --   first-odd-line   the first number that occurs an odd number of times is the first vertex on an odd line of the axis
 --   evenly-more, evenly-all     vertices that lie two by two on lines of the second shift: one pair more; all of them
@@ -23,15 +24,15 @@ use Rattle.meaning.specs.Numbers.{Axis, focus, first as first·shift, second, C
 use Rattle.meaning.specs.Counting.{count, odd, first, All}
 use Rattle.meaning.specs.Lists.{vertices, onLine, oddLine}
 use Rattle.meaning.specs.Verdicts.{at, onOddLineAt}
-use Rattle.meaning.proofs.Checked.{is-first}
+use Rattle.meaning.proofs.First.{is-first, first-none, first-facts, first-same, first-or}
 use Rattle.meaning.proofs.Integers.{and-left, and-right}
 use Rattle.codes.specs.Keys.{cornerAt, pairKey}
 use Rattle.codes.proofs.Keys.{onLine-pairKey}
-use Rattle.lines.specs.Odd.{occursOddly, firstOdd}
-use Rattle.lines.proofs.Parity.{Evenly, paired-more, paired-all}
+use Rattle.chains.specs.Odd.{occursOddly, firstOdd}
+use Rattle.chains.specs.Chains.{high, low, Parted}
+use Rattle.chains.proofs.Parity.{Evenly, paired-more, paired-all}
 use Rattle.lists.specs.Check.{InRange, pairAt, Filled, Offsets, firstOn}
-use Rattle.lists.proofs.First.{first-none, first-facts, first-same, first-or}
-use Rattle.lists.proofs.Vertices.{at-vertices, all-by}
+use Rattle.lists.proofs.Vertices.{at-vertices, steps-in, all-by}
 
 -- ---- counting through a map, and by tests that agree on the list
 
@@ -65,13 +66,28 @@ module _ (ns : List ℤ) (a b : ℕ) where
       (λ k l. getD-set-other keys i k v 0 (omega arith) ∙ f k l)
       (getD-set-same keys i v 0 h ∙ e)
 
+-- the parts of a pair
+parts : (s t key : ℕ) → key ≡ s * 2048 + t → s ≤ 1024 → t ≤ 1024 → (high key < 1025) × (low key < 1025)
+parts s t key e f g = (omega arith, omega arith)
+
+pub filled-parted : (ns : List ℤ) (a b n : ℕ) (keys : List ℕ) → InRange ns → (a < 3) × (b < 3) → n ≡ length (vertices ns) → n ≤ length keys →
+    Filled ns a b (length (vertices ns)) keys → Parted (take n keys)
+filled-parted ns a b n keys r o is h f i l =
+    let within : i < n = omega (arith, length-take-le n keys h) in
+    let inside : i < length (vertices ns) = omega arith in
+    parts (steps (getD ns (3 * i + a) (pos 0))) (steps (getD ns (3 * i + b) (pos 0))) (getD (take n keys) i 0)
+    (getD-take n keys i 0 within ∙ f i inside)
+    (steps-in ns i a r inside (o .0))
+    (steps-in ns i b r inside (o .1))
+
 pub pairAt-key : (axis : Axis) (ns : List ℤ) (a b i : ℕ) → Offsets axis a b → pairAt ns a b i ≡ pairKey axis (cornerAt ns i)
 pairAt-key focus ns a b i o = at-places ns (3 * i + a) (3 * i + b) (3 * i + 1) (3 * i + 2) (omega arith) (omega arith)
 pairAt-key first·shift ns a b i o = at-places ns (3 * i + a) (3 * i + b) (3 * i) (3 * i + 2) (omega arith) (omega arith)
 pairAt-key second ns a b i o = at-places ns (3 * i + a) (3 * i + b) (3 * i) (3 * i + 1) (omega arith) (omega arith)
 
 module _ (axis : Axis) (ns : List ℤ) (a b : ℕ) (o : Offsets axis a b) where
-  pub keys-filled : (keys : List ℕ) → length (vertices ns) ≤ length keys → Filled ns a b (length (vertices ns)) keys → take (length (vertices ns)) keys ≡ map (pairKey axis) (vertices ns)
+  pub keys-filled : (keys : List ℕ) → length (vertices ns) ≤ length keys → Filled ns a b (length (vertices ns)) keys →
+      take (length (vertices ns)) keys ≡ map (pairKey axis) (vertices ns)
   keys-filled keys h f =
       let n = length (vertices ns) in
       ext-getD 0 (take n keys) (map (pairKey axis) (vertices ns))

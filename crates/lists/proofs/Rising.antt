@@ -15,7 +15,7 @@ use Rattle.meaning.specs.Lists.{vertices}
 use Rattle.meaning.specs.Verdicts.{fallsAt}
 use Rattle.codes.specs.Keys.{keyOf, cornerAt}
 use Rattle.lists.specs.Check.{InRange}
-use Rattle.lists.proofs.Flags.{flag-more}
+use Rattle.meaning.proofs.Flags.{flag-more}
 use Rattle.lists.proofs.Vertices.{falls-key}
 
 pub first-rises : (ns : List ℤ) (k : ℕ) → k < 1 → fallsAt (vertices ns) k ≡ false

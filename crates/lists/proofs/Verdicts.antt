@@ -23,7 +23,7 @@ use Rattle.meaning.specs.declared.Verdict.the-variants.{Valid, NotTriples, TooM
 use Rattle.meaning.proofs.Checked.{place-all, verdict-valid}
 use Rattle.codes.specs.Keys.{cornerAt}
 use Rattle.lists.specs.Check.{Checked, InRange}
-use Rattle.lists.proofs.First.{first-facts}
+use Rattle.meaning.proofs.First.{first-facts}
 use Rattle.lists.proofs.Vertices.{at-vertices, outside-at}
 
 module _ (ns : List ℤ) where

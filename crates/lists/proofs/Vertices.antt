@@ -22,7 +22,7 @@ use Rattle.codes.specs.Keys.{keyOf, cornerAt}
 use Rattle.codes.proofs.Laws.{number-steps-le}
 use Rattle.codes.proofs.Keys.{corner-numbers, below-key}
 use Rattle.lists.specs.Check.{AllNumbers, InRange}
-use Rattle.lists.proofs.Flags.{all-third}
+use Rattle.meaning.proofs.Flags.{all-third}
 
 pub length-vertices : (ns : List ℤ) → length (vertices ns) ≡ length ns / 3
 length-vertices [] = refl
@@ -32,7 +32,11 @@ length-vertices (x ∷ y ∷ z ∷ l) = omega (arith, length-vertices l)
 
 -- three places further on
 further : (x y z : ℤ) (l : List ℤ) (i : ℕ) → cornerAt (x ∷ y ∷ z ∷ l) (suc i) ≡ cornerAt l i
-further x y z l i = λ j. corner (place (3 * suc i) (3 * i) (omega arith) j) (place (3 * suc i + 1) (3 * i + 1) (omega arith) j) (place (3 * suc i + 2) (3 * i + 2) (omega arith) j)
+further x y z l i = λ j.
+    corner
+    (place (3 * suc i) (3 * i) (omega arith) j)
+    (place (3 * suc i + 1) (3 * i + 1) (omega arith) j)
+    (place (3 * suc i + 2) (3 * i + 2) (omega arith) j)
   where
     place : (m n : ℕ) → m ≡ suc (suc (suc n)) → getD (x ∷ y ∷ z ∷ l) m (pos 0) ≡ getD l n (pos 0)
     place m n e = ap (λ k. getD (x ∷ y ∷ z ∷ l) k (pos 0)) e

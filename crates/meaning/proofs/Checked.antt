@@ -1,7 +1,6 @@
 -- The check's verdict and validity.
---   First, first-is, is-first   what the first place that passes a test is, and that it is the only such place
---   verdict-valid               the verdict is Valid exactly when the numbers come in threes and their vertices are a valid list
---   passed, passes-valid        a verdict that passes is Valid, and the list is then a valid one
+--   verdict-valid          the verdict is Valid exactly when the numbers come in threes and their vertices are a valid list
+--   passed, passes-valid   a verdict that passes is Valid, and the list is then a valid one
 -- Assumes nothing.
 use mathlib.Core.Path.{_≡_, refl, sym, _∙_, ap, ap₂, subst}
 use mathlib.Core.Logic.{_↔_}
@@ -21,49 +20,8 @@ use Rattle.meaning.specs.declared.Verdict.{Verdict}
 use Rattle.meaning.specs.declared.Verdict.the-variants.{Valid as Passed, NotTriples, TooMany, OutOfRange, NotRising, OddLine}
 use Rattle.meaning.proofs.Parity.{odd-count, sum-some}
 use Rattle.meaning.proofs.Integers.{not-yes}
+use Rattle.meaning.proofs.First.{first-is}
 use Rattle.meaning.proofs.Solid.{plane}
-
--- ---- the first place that passes a test
-
-pub record First (p : ℕ → Bool) (n r : ℕ) : Type 0 where
-  pub within : r ≤ n
-  pub before : (k : ℕ) → k < r → p k ≡ false
-  pub found : r < n → p r ≡ true
-
-pub first-is : (p : ℕ → Bool) (n : ℕ) → First p n (first p n)
-first-is p zero = record { within = omega arith; before = λ k h. absurd (omega arith); found = λ h. absurd (omega arith) }
-first-is p (suc n) = go (first-is p n) (ltb (first p n) n) refl
-  where
-    past : First p n (first p n) → n ≤ first p n → (b : Bool) → p n ≡ b → First p (suc n) (cond b n (suc n))
-    past f h true e =
-        record { within = omega arith; before = λ k l. f .before k (omega arith); found = λ l. e }
-    past f h false e =
-        record { within = omega arith; before = λ k l. at-end k l (ltb k n) refl; found = λ l. absurd (omega arith) }
-      where
-        at-end : (k : ℕ) → k < suc n → (t : Bool) → ltb k n ≡ t → p k ≡ false
-        at-end k l true q = f .before k (omega (arith, ltb-true k n q))
-        at-end k l false q = let g = ltb-false k n q in subst (λ (m : ℕ). p m ≡ false) (omega arith) e
-
-    go : First p n (first p n) → (t : Bool) → ltb (first p n) n ≡ t → First p (suc n) (cond t (first p n) (cond (p n) n (suc n)))
-    go f true e =
-        let h = ltb-true (first p n) n e in
-        record { within = omega arith; before = f .before; found = λ l. f .found h }
-    go f false e = past f (ltb-false (first p n) n e) (p n) refl
-
--- there is only one such place
-pub first-one : (p : ℕ → Bool) (n r s : ℕ) → First p n r → First p n s → r ≡ s
-first-one p n r s f g = go (ltb r s) (ltb s r) refl refl
-  where
-    clash : (a b : ℕ) → First p n a → First p n b → a < b → ⊥
-    clash a b x y h = true≢false (sym (x .found (omega (arith, y .within))) ∙ y .before a h)
-
-    go : (t u : Bool) → ltb r s ≡ t → ltb s r ≡ u → r ≡ s
-    go true u a b = absurd (clash r s f g (ltb-true r s a))
-    go false true a b = absurd (clash s r g f (ltb-true s r b))
-    go false false a b = let h = ltb-false r s a in let k = ltb-false s r b in omega arith
-
-pub is-first : (p : ℕ → Bool) (n r : ℕ) → First p n r → r ≡ first p n
-is-first p n r f = first-one p n r (first p n) f (first-is p n)
 
 -- ---- what a passed test says of every place, and back
 

@@ -1,6 +1,8 @@
 -- The laws of the definitions, the lowest first.
 pub mod Parity
 pub mod Integers
+pub mod Flags
+pub mod First
 pub mod Space
 pub mod Line
 pub mod Product

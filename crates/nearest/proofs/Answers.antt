@@ -26,7 +26,7 @@ use Rattle.lists.proofs.Vertices.{length-vertices}
 use Rattle.nearest.specs.declared.Found.{Found}
 use Rattle.nearest.specs.declared.Found.the-variants.{At, Empty, Refused}
 use Rattle.nearest.specs.Answer.{Answered}
-use Rattle.nearest.specs.Search.{Ranked}
+use Rattle.nearest.specs.Ranks.{Ranked}
 use Rattle.nearest.proofs.Ranks.{ranked-nearest}
 
 pub refused-some : (v : Verdict) → OneOf (1 ∷ 2 ∷ 3 ∷ 4 ∷ 5 ∷ []) (denote.Enum.Declared.tagOf Rattle.meaning.proofs.Verdict.the-type v) → 0 < refusalNumber v

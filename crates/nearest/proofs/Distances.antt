@@ -15,7 +15,7 @@ use Rattle.meaning.specs.Nearest.{gap, weight, distance}
 use Rattle.codes.specs.Lift.{lifted, lowered}
 use Rattle.codes.proofs.Shift.{Above, down-above, down-below, down-not}
 use Rattle.codes.proofs.Laws.{lifted-lowered, lifted-steps, number-le, steps-number}
-use Rattle.nearest.specs.Search.{apart}
+use Rattle.ranks.specs.Values.{apart}
 
 sub-apart : (a b : ℕ) → natAbs (subℕ a b) ≡ apart a b
 sub-apart a b = go (ltb a b) refl

@@ -29,9 +29,11 @@ use Rattle.codes.specs.Lift.{lowered}
 use Rattle.codes.proofs.Tests.{lex}
 use Rattle.keys.specs.Parts.{keyFits}
 use Rattle.keys.proofs.Corners.{permitted-corners}
-use Rattle.nearest.specs.Search.{apart, value, Best, Depth, Rank, mapIn, rankOf, Ranked, Brought}
-use Rattle.nearest.specs.declared.values.Scale.{Scale}
-use Rattle.nearest.proofs.Costs.{value-small}
+use Rattle.ranks.specs.Values.{apart, value, way, Brought}
+use Rattle.search.specs.Search.{Best, Depth, Rank, mapIn}
+use Rattle.nearest.specs.Ranks.{rankOf, Ranked}
+use Rattle.ranks.specs.declared.Scale.{Scale}
+use Rattle.ranks.proofs.Costs.{value-small}
 use Rattle.nearest.proofs.Distances.{distance-apart}
 
 -- ---- cells by codes
@@ -74,10 +76,11 @@ by-codes c e =
     }
 
 -- a valid list permits cells within the codes alone
-pub within-codes : (l : List Corner) → Valid l → (a b d : ℕ) → permitted l (cellAt a b d) ≡ true → (0 ≤ a) × (a < 1024) × (0 ≤ b) × (b < 1024) × (0 ≤ d) × (d < 1024)
+pub within-codes : (l : List Corner) → Valid l → (a b d : ℕ) → permitted l (cellAt a b d) ≡ true → (a < 1024) × (b < 1024) × (d < 1024)
 within-codes l valid a b d e =
     let h = valid-within l valid (cellAt a b d) e in
-    (omega arith, code a (and-left (isCode (number a)) _ h), omega arith, code b (and-left (isCode (number b)) _ (and-right (isCode (number a)) _ h)), omega arith, code d (and-right (isCode (number b)) _ (and-right (isCode (number a)) _ h)))
+    let k = and-right (isCode (number a)) _ h in
+    (code a (and-left (isCode (number a)) _ h), code b (and-left (isCode (number b)) _ k), code d (and-right (isCode (number b)) _ k))
   where
     code : (n : ℕ) → isCode (number n) ≡ true → n < 1024
     code n k = ltb-true n 1024 (sym (number-isCode n) ∙ k)
@@ -92,7 +95,7 @@ some-cell (v ∷ l) valid h = some-permitted v l (valid .rising)
 pub of-keys : {D : Depth} {k l : List ℕ} {none r : ℕ} → k ≡ l → Best (Rank D k 0) none r → Best (Rank D l 0) none r
 of-keys {D} {k} {l} {none} {r} e b = subst (λ (m : List ℕ). Best (Rank D m 0) none r) e b
 
-module _ (ns : List ℤ) (valid : Valid (vertices ns)) (u v t : ℕ) (A B D : Scale) (la ha lb hb ld hd : ℕ)
+module _ (ns : List ℤ) (valid : Valid (vertices ns)) {u v t : ℕ} {A B D : Scale} {la ha lb hb ld hd : ℕ}
     (brought-a : Brought u la ha (weight focus) 1048576 A)
     (brought-b : Brought v lb hb (weight first) 1024 B)
     (brought-d : Brought t ld hd (weight second) 1 D)
@@ -102,7 +105,7 @@ module _ (ns : List ℤ) (valid : Valid (vertices ns)) (u v t : ℕ) (A B D : Sc
     wish = cell (lowered u) (lowered v) (lowered t)
 
     abbrev pub extra : ℕ
-    extra = A .weight * apart u (A .wish + 32256) + B .weight * apart v (B .wish + 32256) + D .weight * apart t (D .wish + 32256)
+    extra = way u A + way v B + way t D
 
     -- on one axis: the cost of a code is that of the way to the scale's code and of the way on
     axis-cost : (z low high w place : ℕ) (s : Scale) → Brought z low high w place s → (c : ℕ) → low ≤ c → c < high
@@ -137,8 +140,10 @@ module _ (ns : List ℤ) (valid : Valid (vertices ns)) (u v t : ℕ) (A B D : Sc
     module _ {none : ℕ} (r : ℕ) (best : Best (Rank (mapIn A B D) (map keyOf (vertices ns)) 0) none r) (above : 3 * 17592186044416 ≤ none) where
       below : (a b d : ℕ) → (a < 1024) × (b < 1024) × (d < 1024) → permitted (vertices ns) (cellAt a b d) ≡ true → r ≤ mapIn A B D .worth (a, (b, (d, tt)))
       below a b d k e =
-          let p = best .least (0 + mapIn A B D .worth (a, (b, (d, tt)))) (record { at = (a, (b, (d, tt))); within = (k .0, (k .1, (k .2, tt))); member = sym (member-of a b d) ∙ e; is = refl }) in
-          omega arith
+          omega (arith, best .least (0 + mapIn A B D .worth (a, (b, (d, tt)))) cell-there)
+        where
+          cell-there : Rank (mapIn A B D) (map keyOf (vertices ns)) 0 (0 + mapIn A B D .worth (a, (b, (d, tt))))
+          cell-there = record { at = (a, (b, (d, tt))); within = (k .0, (k .1, (k .2, tt))); member = sym (member-of a b d) ∙ e; is = refl }
 
       found : (c : Cell) → permitted (vertices ns) c ≡ true → Rank (mapIn A B D) (map keyOf (vertices ns)) 0 r
       found c e = go (best .from)
@@ -148,7 +153,10 @@ module _ (ns : List ℤ) (valid : Valid (vertices ns)) (u v t : ℕ) (A B D : Sc
           go (inl h) =
               let k = by-codes c (valid-within (vertices ns) valid c e) in
               let l = below (k .a) (k .b) (k .d) (k .codes) (ap (permitted (vertices ns)) (k .is) ∙ e) in
-              absurd (omega (arith, value-small A (brought-a .sound) (k .a) (k .codes .0), value-small B (brought-b .sound) (k .b) (k .codes .1), value-small D (brought-d .sound) (k .d) (k .codes .2)))
+              let p = value-small A (brought-a .sound) (k .a) (k .codes .0) in
+              let q = value-small B (brought-b .sound) (k .b) (k .codes .1) in
+              let s = value-small D (brought-d .sound) (k .d) (k .codes .2) in
+              absurd (omega (arith, p, q, s))
 
       pub ranked : (c : Cell) → permitted (vertices ns) c ≡ true → Ranked ns wish (r + extra * 1073741824)
       ranked c e =
@@ -183,7 +191,10 @@ abbrev pub cellOf : ℕ → Cell
 cellOf r = cellAt (r / 1048576 % 1024) (r / 1024 % 1024) (r % 1024)
 
 -- lower among cells is lower among the three codes as one number
-lower-codes : (a b d x y z : ℕ) → (b < 1024) × (d < 1024) → (y < 1024) × (z < 1024) → lower (cellAt a b d) (cellAt x y z) ≡ ltb (a * 1048576 + (b * 1024 + d)) (x * 1048576 + (y * 1024 + z))
+abbrev asOne : ℕ → ℕ → ℕ → ℕ
+asOne a b d = a * 1048576 + (b * 1024 + d)
+
+lower-codes : (a b d x y z : ℕ) → (b < 1024) × (d < 1024) → (y < 1024) × (z < 1024) → lower (cellAt a b d) (cellAt x y z) ≡ ltb (asOne a b d) (asOne x y z)
 lower-codes a b d x y z h k =
     ap₂ _||_ (number-lt a x)
     (ap₂ _&&_ (number-le a x) (ap₂ _||_ (number-lt b y) (ap₂ _&&_ (number-le b y) (number-lt d z)))) ∙
@@ -191,10 +202,13 @@ lower-codes a b d x y z h k =
     lex 1048576 a x (b * 1024 + d) (y * 1024 + z) (omega arith) (omega arith)
 
 module _ (ns : List ℤ) (valid : Valid (vertices ns)) (w : Cell) (r : ℕ) (h : Ranked ns w r) where
-  cell-here : Parts (distance w (cellAt (h .focus) (h .first) (h .second))) (h .focus) (h .first) (h .second) r → cellAt (h .focus) (h .first) (h .second) ≡ cellOf r
+  abbrev here : Cell
+  here = cellAt (h .focus) (h .first) (h .second)
+
+  cell-here : Parts (distance w here) (h .focus) (h .first) (h .second) r → here ≡ cellOf r
   cell-here p = λ i. cellAt (sym (p .one) i) (sym (p .two) i) (sym (p .three) i)
 
-  at-codes : Nearest (permitted (vertices ns)) w (cellAt (h .focus) (h .first) (h .second))
+  at-codes : Nearest (permitted (vertices ns)) w here
   at-codes =
       record {
         member = h .member;
@@ -202,20 +216,20 @@ module _ (ns : List ℤ) (valid : Valid (vertices ns)) (w : Cell) (r : ℕ) (h :
         lowest = λ c e f. low c e f (by-codes c (valid-within (vertices ns) valid c e));
       }
     where
-      near : (c : Cell) → permitted (vertices ns) c ≡ true → ByCodes c → distance w (cellAt (h .focus) (h .first) (h .second)) ≤ distance w c
+      near : (c : Cell) → permitted (vertices ns) c ≡ true → ByCodes c → distance w here ≤ distance w c
       near c e k =
           let l = h .least (k .a) (k .b) (k .d) (k .codes) (ap (permitted (vertices ns)) (k .is) ∙ e) in
-          subst (λ (x : Cell). distance w (cellAt (h .focus) (h .first) (h .second)) ≤ distance w x) (k .is) (omega (arith, h .is, k .codes, h .codes))
+          subst (λ (x : Cell). distance w here ≤ distance w x) (k .is) (omega (arith, h .is, k .codes, h .codes))
 
-      low : (c : Cell) → permitted (vertices ns) c ≡ true → distance w c ≡ distance w (cellAt (h .focus) (h .first) (h .second)) → ByCodes c → lower c (cellAt (h .focus) (h .first) (h .second)) ≡ false
+      low : (c : Cell) → permitted (vertices ns) c ≡ true → distance w c ≡ distance w here → ByCodes c → lower c here ≡ false
       low c e f k =
           let l = h .least (k .a) (k .b) (k .d) (k .codes) (ap (permitted (vertices ns)) (k .is) ∙ e) in
-          subst (λ (x : Cell). lower x (cellAt (h .focus) (h .first) (h .second)) ≡ false) (k .is)
+          subst (λ (x : Cell). lower x here ≡ false) (k .is)
           (lower-codes (k .a) (k .b) (k .d) (h .focus) (h .first) (h .second) (k .codes .1, k .codes .2) (h .codes .1, h .codes .2) ∙
-          le-ltb (k .a * 1048576 + (k .b * 1024 + k .d)) (h .focus * 1048576 + (h .first * 1024 + h .second)) (omega (arith, h .is, f, ap (distance w) (k .is))))
+          le-ltb (asOne (k .a) (k .b) (k .d)) (asOne (h .focus) (h .first) (h .second)) (omega (arith, h .is, f, ap (distance w) (k .is))))
 
   pub ranked-nearest : Nearest (permitted (vertices ns)) w (cellOf r) × (r / 1073741824 ≡ distance w (cellOf r))
   ranked-nearest =
-      let p = parts (distance w (cellAt (h .focus) (h .first) (h .second))) (h .focus) (h .first) (h .second) r (h .codes) (h .is) in
+      let p = parts (distance w here) (h .focus) (h .first) (h .second) r (h .codes) (h .is) in
       let e = cell-here p in
       (subst (λ (c : Cell). Nearest (permitted (vertices ns)) w c) e at-codes, p .far ∙ ap (distance w) e)

@@ -1,3 +1,3 @@
--- The promise of nearest, and what its parts lend each other.
+-- The promise of nearest (Answer), and the rank of a cell (Ranks).
 pub mod Answer
-pub mod Search
+pub mod Ranks

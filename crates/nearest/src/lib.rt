@@ -1,22 +1,18 @@
 // The nearest permitted cell to a wish (document 01, demand 3). It relies on `lists` for the check, on `keys` for the keys of a list and on
-// `rising` for the merge of rising lists; its own search stands in search.rt.
+// `search` for the least rank among the cells that they permit.
 ghost use mathlib.Core.Path.{_≡_};
 ghost use Prim.Native.Nat.{_+_, _/_, _%_, _<_, _≤_, _^_};
 ghost use lib.ListN.{length};
 ghost use Rattle.meaning.specs.Numbers.{cell, number};
-ghost use Rattle.meaning.specs.Lists.{vertices, Valid, mostVertices};
+ghost use Rattle.meaning.specs.Lists.{vertices};
 ghost use Rattle.meaning.specs.Verdicts.{verdict};
 ghost use Rattle.codes.specs.Lift.{lowered};
 ghost use Rattle.nearest.specs.Answer.{Answered};
-ghost use Rattle.nearest.specs.Search.{Ranked};
+ghost use Rattle.nearest.specs.Ranks.{Ranked, Askable, Rooms};
 use meaning::MOST_VERTICES;
 use meaning::Verdict;
-use search::END;
-use values::DISTANCE;
-
-mod extents;
-mod search;
-mod values;
+use ranks::DISTANCE;
+use ranks::END;
 
 // What one code of focus counts as distance, and one of either shift: `weight` of the distance's definition.
 const FOCUS_WEIGHT: u64 = 1;
@@ -66,28 +62,26 @@ fn rank_with_room(
     spare: &mut [u32],
     other: &mut [u32],
 ) -> u64
-    requires { ⌜ Valid (vertices (now list)) × (0 < length (vertices (now list))) ⌝ }
-    requires { ⌜ (focus < 65536) × (first < 65536) × (second < 65536) ⌝ }
-    requires { ⌜ (length (vertices (now list)) ≤ length (now keys)) × (length (vertices (now list)) ≤ length (now below)) × (length (vertices (now list)) ≤ length (now above)) × (length (vertices (now list)) ≤ length (now line)) × (length (vertices (now list)) ≤ length (now spare)) × (length (vertices (now list)) + length (vertices (now list)) ≤ length (now other)) ⌝ }
+    requires { ⌜ Askable (now list) focus first second ⌝ }
+    requires { ⌜ Rooms (length (vertices (now list))) (now keys) (now below) (now above) (now line) (now spare) (now other) ⌝ }
     ensures { λ r. ⌜ Ranked (now (list .entry)) (cell (lowered focus) (lowered first) (lowered second)) r × (r < 2 ^ 62) ⌝ }
 {
     let n = keys::read(list, keys);
     let front = &keys[..n];
-    let x = extents::extend(front, extents::FOCUS);
-    let y = extents::extend(front, extents::FIRST);
-    let z = extents::extend(front, extents::SECOND);
-    let a = values::bring(focus, x.low, x.high, FOCUS_WEIGHT, FOCUS_PLACE);
-    let b = values::bring(first, y.low, y.high, SHIFT_WEIGHT, FIRST_PLACE);
-    let d = values::bring(second, z.low, z.high, SHIFT_WEIGHT, SECOND_PLACE);
+    let x = ranks::extend(front, keys::FOCUS);
+    let y = ranks::extend(front, keys::FIRST_SHIFT);
+    let z = ranks::extend(front, keys::SECOND_SHIFT);
+    let a = ranks::bring(focus, x.low, x.high, FOCUS_WEIGHT, FOCUS_PLACE);
+    let b = ranks::bring(first, y.low, y.high, SHIFT_WEIGHT, FIRST_PLACE);
+    let d = ranks::bring(second, z.low, z.high, SHIFT_WEIGHT, SECOND_PLACE);
     let rank = search::planes(front, a, b, d, NONE, below, above, line, spare, other);
-    let beyond = values::beyond(focus, a) + values::beyond(first, b) + values::beyond(second, d);
+    let beyond = ranks::beyond(focus, a) + ranks::beyond(first, b) + ranks::beyond(second, d);
     rank + beyond * DISTANCE
 }
 
 // The same with room of its own for few vertices.
 fn rank_of_few(list: &[i16], focus: u32, first: u32, second: u32) -> u64
-    requires { ⌜ Valid (vertices (now list)) × (0 < length (vertices (now list))) ⌝ }
-    requires { ⌜ (focus < 65536) × (first < 65536) × (second < 65536) ⌝ }
+    requires { ⌜ Askable (now list) focus first second ⌝ }
     requires { ⌜ length (vertices (now list)) ≤ 32 ⌝ }
     ensures { λ r. ⌜ Ranked (now (list .entry)) (cell (lowered focus) (lowered first) (lowered second)) r × (r < 2 ^ 62) ⌝ }
 {
@@ -113,8 +107,8 @@ fn rank_of_few(list: &[i16], focus: u32, first: u32, second: u32) -> u64
 
 // The same with room of its own for as many vertices as a list may have.
 fn rank_of_many(list: &[i16], focus: u32, first: u32, second: u32) -> u64
-    requires { ⌜ Valid (vertices (now list)) × (0 < length (vertices (now list))) ⌝ }
-    requires { ⌜ (focus < 65536) × (first < 65536) × (second < 65536) ⌝ }
+    requires { ⌜ Askable (now list) focus first second ⌝ }
+    requires { ⌜ length (vertices (now list)) ≤ 1024 ⌝ }
     ensures { λ r. ⌜ Ranked (now (list .entry)) (cell (lowered focus) (lowered first) (lowered second)) r × (r < 2 ^ 62) ⌝ }
 {
     let mut keys = [0u32; MOST_VERTICES];

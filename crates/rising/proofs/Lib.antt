@@ -2,3 +2,4 @@
 pub mod Written
 pub mod Merging
 pub mod Sums
+pub mod Order

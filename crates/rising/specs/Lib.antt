@@ -1,2 +1,3 @@
--- Rising lists of numbers, and the merge of two of them.
+-- Rising lists of numbers, the merge of two of them, the order of any list, and lists at the front of a slice.
 pub mod Merged
+pub mod Placed

@@ -1,7 +1,2 @@
--- Laws of the sweep.
-pub mod Stride
-pub mod Levels
-pub mod Pieces
-pub mod Numbers
-pub mod Turns
-pub mod Bounds
+-- From lists of keys to the one list of an operation.
+pub mod Whole

@@ -1,2 +1,2 @@
--- What the sweep's promises cite.
-pub mod Sweep
+-- Two valid lists joined in working room.
+pub mod Room

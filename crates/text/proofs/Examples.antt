@@ -9,7 +9,7 @@ use lib.IntN.{pos, negsuc}
 use Rattle.meaning.specs.Lists.{mostVertices}
 use Rattle.meaning.specs.Verdicts.{verdict}
 use Rattle.frames.specs.Frames.{fourAt, lineAt, twoDigits, fourDigits, lineEnd}
-use Rattle.text.specs.Reading.{mapText, wishText, mostWishes}
+use Rattle.reading.specs.Reading.{mapText, wishText, mostWishes}
 use Rattle.text.specs.Program.{mostBytes, refusal, answers, outcome}
 
 digits : List ℕ → List ℕ

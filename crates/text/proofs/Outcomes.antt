@@ -15,9 +15,9 @@ use lib.ListN.{length, take, drop, length-append}
 use lib.Seq.{take-at, drop-at, length-take-le}
 use Rattle.meaning.specs.Lists.{vertices}
 use Rattle.lists.proofs.Vertices.{length-vertices}
-use Rattle.text.specs.Reading.{Text, refused, whole, mapText, wishText}
-use Rattle.text.specs.Program.{refusal, answers, withWishes, withMap, outcome, refusalLine, Answers, Put}
-use Rattle.text.specs.Inner.{Filled, Written}
+use Rattle.reading.specs.Reading.{Text, refused, whole, mapText, wishText}
+use Rattle.answers.specs.Answers.{refusalLine, Answers, Filled, Written}
+use Rattle.text.specs.Program.{refusal, answers, withWishes, withMap, outcome, Put}
 use Rattle.text.proofs.Settled.{most-bytes}
 
 -- ---- the length of the input

@@ -11,8 +11,9 @@ use lib.Seq.{length-take-le}
 use Rattle.meaning.specs.Numbers.{Cell, Corner}
 use Rattle.meaning.specs.Lists.{vertices, permitted, mostVertices}
 use Rattle.meaning.proofs.Closest.{nearest-unique}
-use Rattle.text.specs.Reading.{mostWishes}
-use Rattle.text.specs.Program.{mostBytes, Outcome, refusal, answers, outcome, cellLine, wishAt, AnswerLine, Answers, Writes, Put, Responds}
+use Rattle.reading.specs.Reading.{mostWishes}
+use Rattle.answers.specs.Answers.{cellLine, wishAt, AnswerLine, Answers}
+use Rattle.text.specs.Program.{mostBytes, Outcome, refusal, answers, outcome, Writes, Put, Responds}
 
 pub most-bytes : mostBytes ≡ 19214
 unfolding mostBytes mostVertices mostWishes

@@ -1,4 +1,2 @@
--- What must be believed: the text form of a map, and what the program writes. Their laws are under proofs/.
-pub mod Reading
+-- What must be believed: what the program writes. Its laws are under proofs/.
 pub mod Program
-pub mod Inner

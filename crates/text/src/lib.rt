@@ -1,21 +1,18 @@
-// What the program answers to its input: the text form of a map and of wishes, read and answered. It relies on crate `frames` for lines as bytes,
-// on `reading` for the checks in their order, on `answers` for the lines that are written.
-mod answers;
-mod reading;
-
+// What the program answers to its input: the text form of a map and of wishes, read and answered. It relies on crate `reading` for the checks in
+// their order, and on crate `answers` for the lines that are written.
 ghost use mathlib.Core.Path.{_≡_};
 ghost use Prim.Native.Nat.{_≤_};
 ghost use lib.ListN.{length};
 ghost use Rattle.meaning.specs.Verdicts.{verdict};
-ghost use Rattle.text.specs.Reading.{wishText};
+ghost use Rattle.reading.specs.Reading.{wishText};
 ghost use Rattle.text.specs.Program.{withWishes, Put, Responds};
 use answers::ANSWER_LINE;
+use frames::NUMBERS;
 use meaning::MOST_VERTICES;
 use meaning::Verdict;
 use reading::LONG_LINE;
 use reading::MAP_NUMBERS;
 use reading::MOST_WISHES;
-use reading::NUMBERS;
 use reading::Read;
 use reading::SHORT_LINE;
 use reading::WISH_NUMBERS;

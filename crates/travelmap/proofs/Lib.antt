@@ -1,2 +1,3 @@
--- Laws that the proofs of this crate cite.
-pub mod Packing
+-- Laws: what the proofs of this crate cite (Passing), and that each promise settles its outcome (Settled).
+pub mod Passing
+pub mod Settled

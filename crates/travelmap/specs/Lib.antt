@@ -1,2 +1,2 @@
--- How the functions for C and Rust pack an answer into one number.
-pub mod Packed
+-- What the functions for C and Rust promise.
+pub mod Exports

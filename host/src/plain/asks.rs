@@ -1,4 +1,4 @@
-//! Box, cell query, corner report and plane query.
+//! Ordinary Rust: the box, the cell query, the corner report and the plane query.
 
 use super::check::verdict;
 use super::{refusal, vertices, HIGH, LOW};

@@ -1,4 +1,4 @@
-//! The check, in one pass with parity bits; places are searched only on failure.
+//! Ordinary Rust: the check, in one pass with parity bits; places are searched only on failure.
 
 use super::{key, refusal, vertices, HIGH, LOW, MOST};
 use std::cell::RefCell;

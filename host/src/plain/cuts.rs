@@ -1,4 +1,4 @@
-//! Section and split: numbers that occur an odd number of times, after sorting.
+//! Ordinary Rust: section and split, the numbers that occur an odd number of times after sorting.
 
 use super::check::verdict;
 use super::{key, refusal, unkey, vertices, HIGH, LOW};

@@ -1,4 +1,5 @@
-//! Join: a sweep over the planes of both maps, with sections as rows of bits.
+//! Ordinary Rust: the join by rows of bits, a sweep over the planes of both maps with sections as rows of bits. It is
+//! timed beside the join by lists, which is the bar (docs/DECISIONS.md, 41).
 
 use super::check::verdict;
 use super::rows::{Axis, Part, Rows};

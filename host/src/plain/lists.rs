@@ -1,6 +1,8 @@
-//! Join by the report's sweep over lists (section 4): the section of each map is a rising list of keys, each plane is
-//! merged into it, the two sections are joined line by line in the same way one dimension lower, and what is put out
-//! is the exclusive or of neighbouring sections of the result.
+//! Ordinary Rust: the join by lists, the bar for the library's join (docs/DECISIONS.md, 41). It is the report's sweep
+//! (section 4): the section of each map is a rising list of keys, each plane is merged into it, the two sections are
+//! joined line by line in the same way one dimension lower, and what is put out is the exclusive or of neighbouring
+//! sections of the result. Beside it stands the report's loop read word for word, which is wrong: the self-test must
+//! see it reported.
 
 use super::join::joined;
 use super::LOW;

@@ -1,4 +1,4 @@
-//! Nearest: planes, then rows, are walked away from the wish until no nearer cell can come.
+//! Ordinary Rust: nearest. Planes, then rows, are walked away from the wish until no nearer cell can come.
 
 use super::check::verdict;
 use super::rows::{Axis, Rows};

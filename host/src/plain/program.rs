@@ -1,4 +1,5 @@
-//! The program: every line has a fixed length, so each is read at its place; the map is made ready once for all wishes.
+//! Ordinary Rust: the program. Every line has a fixed length, so each is read at its place; the map is made ready once
+//! for all wishes.
 
 use super::check::verdict;
 use super::nearest::Ready;

@@ -12,6 +12,8 @@ use crate::rng::Rng;
 const MAPS: usize = 3_000;
 /// The widest window of which every cell is looked at.
 const WIDEST: i32 = 12;
+/// The most numbers of a list of which every line is counted.
+const LONGEST: usize = 300;
 
 /// All tests of the judge.
 pub fn judges(test: &mut Test) {
@@ -24,6 +26,7 @@ pub fn judges(test: &mut Test) {
     );
     let mut rng = Rng::new(1);
     let mut narrow = 0;
+    let mut short = 0;
     for _ in 0..MAPS {
         let map = make::map(&mut rng);
         grid_means_list(test, &mut rng, &map);
@@ -31,8 +34,13 @@ pub fn judges(test: &mut Test) {
             narrow += 1;
             same_cell_by_cell(test, &mut rng, &map, cuts);
         }
-        check_line_by_line(test, &damage::any_list(&mut rng));
+        let list = damage::any_list(&mut rng);
+        if list.len() <= LONGEST {
+            short += 1;
+            check_line_by_line(test, &list);
+        }
     }
+    test.holds("short lists", short > MAPS / 10);
     test.holds("narrow maps", narrow > MAPS / 10);
 }
 
@@ -100,9 +108,6 @@ fn same_cell_by_cell(test: &mut Test, rng: &mut Rng, map: &[Corner], cuts: [Vec<
 
 /// The check's refusals, each by its definition: every line is counted for every vertex.
 fn check_line_by_line(test: &mut Test, list: &[i16]) {
-    if list.len() > 300 {
-        return;
-    }
     let vertices = corners(list);
     let on_line = |v: &Corner, w: &Corner, axis| (0..AXES).all(|a| a == axis || v.0[a] == w.0[a]);
     let count = |v: &Corner, axis| vertices.iter().filter(|w| on_line(v, w, axis)).count();

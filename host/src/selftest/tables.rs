@@ -5,6 +5,7 @@ use crate::bench::Table;
 use crate::cases::{Case, Cases};
 use crate::functions::*;
 use crate::size::{of_archive, Size};
+use crate::summary::{growth_table, worst_table, Line};
 use crate::{plain, stack};
 use std::hint::black_box;
 use std::time::Duration;
@@ -72,6 +73,30 @@ fn stacks(test: &mut Test) {
     test.holds("no times beside stack", table.lines.is_empty());
 }
 
+/// A check of boxes that takes so long.
+fn line(vertices: usize, ours: f64, plain: f64) -> Line {
+    Line {
+        function: "check".to_string(),
+        map: "boxes".to_string(),
+        vertices,
+        ours,
+        plain,
+    }
+}
+
+/// The worst ratio is found wherever it stands, and growth has the time of each size at its place.
+fn summaries(test: &mut Test) {
+    let lines = [
+        line(8, 30.0, 20.0),
+        line(64, 90.0, 30.0),
+        line(1024, 50.0, 40.0),
+    ];
+    let due = "\n| check | 2 | 3.00 | check, boxes, 64 vertices: 90 ns beside 30 |\n";
+    test.holds("the worst ratio", worst_table(&lines, &[]).ends_with(due));
+    let due = "\n| check | boxes | 30 | 90 |  | 50 |\n";
+    test.holds("growth", growth_table(&lines, &[]).ends_with(due));
+}
+
 /// An archive of one object file, which has sections with these flags and bytes.
 fn archive(sections: &[[u64; 2]]) -> Vec<u8> {
     let mut object = vec![0; 64];
@@ -108,5 +133,6 @@ fn sizes(test: &mut Test) {
 pub fn tables(test: &mut Test) {
     times(test);
     stacks(test);
+    summaries(test);
     sizes(test);
 }

@@ -1,12 +1,17 @@
-//! Generated inputs of the program have what their kind says; wrong programs and wrong folders of maps are reported.
+//! Generated inputs of the program have what their kind says; wrong programs, wrong folders of maps and wrong streams are
+//! reported.
 
 use super::Test;
 use crate::functions::program::{self, compare, judge, wrong_pairs, Pairs};
 use crate::make_text::KINDS;
 use crate::rng::Rng;
+use crate::streams::{wrong_closed, wrong_pieces, Closed, PATIENCE, PRINTED};
+use std::time::Duration;
 
 /// Inputs that are made of each kind.
 const INPUTS: usize = 60;
+/// How long a program is waited for that does not end.
+const IMPATIENCE: Duration = Duration::from_millis(500);
 
 /// What an input of a kind has, by the kind's name.
 type Has = (&'static str, fn(&[u8]) -> bool);
@@ -239,11 +244,51 @@ fn folders(test: &mut Test) {
     test.holds("a wrong program on a map", program_wrong.len() == 1);
 }
 
+/// A program of the shell that answers the printed map, with what it does in place of reading its input and of writing
+/// its answer.
+fn shell(read: &str, write: &str) -> Vec<String> {
+    let due = judge(PRINTED).1.replace('\n', "\\n");
+    let text = format!("say() {{ printf '{due}' 2>/dev/null; }}; {read}; {write}");
+    ["sh", "-c", &text].map(String::from).to_vec()
+}
+
+/// Slow input and closed outputs: a right program passes, wrong ones are reported.
+fn streams(test: &mut Test) {
+    let whole = "cat >/dev/null";
+    let right = shell(whole, "say; exit 0");
+    let slow = |words: &[String]| wrong_pieces(words, PRINTED, &[1, 2, 3], PATIENCE);
+    let at_once = |words: &[String]| wrong_pieces(words, PRINTED, &[PRINTED.len()], PATIENCE);
+    test.holds("right, slow input", slow(&right).is_none());
+    let one_read = format!(
+        "[ $(dd bs=65536 count=1 2>/dev/null | wc -c) -eq {} ] || exit 0",
+        PRINTED.len()
+    );
+    let one_read = shell(&one_read, "say");
+    test.holds("one read, all at once", at_once(&one_read).is_none());
+    test.holds("not reported: one read", slow(&one_read).is_some());
+    for closed in [Closed::NoReader, Closed::Full] {
+        let mut ends = |name: &str, write: &str, right: bool, wait| {
+            let wrong = wrong_closed(&shell(whole, write), closed, wait);
+            test.holds(&format!("{name}, {closed:?}"), wrong.is_none() == right);
+        };
+        ends("right", "say; exit 0", true, PATIENCE);
+        ends(
+            "not reported: a status",
+            "trap '' PIPE; say || exit 3",
+            false,
+            PATIENCE,
+        );
+        let again = "trap '' PIPE; until say; do sleep 0.1; done";
+        ends("not reported: tries for ever", again, false, IMPATIENCE);
+    }
+}
+
 /// All tests of generated inputs and of the program's comparison.
 pub fn texts(test: &mut Test) {
     kinds(test);
     liars(test);
     folders(test);
+    streams(test);
     test.passes("ordinary Rust, program", program::NUMBERS, |run| {
         compare(crate::plain::program, run)
     });

@@ -11,11 +11,11 @@ slice-aggregate-put-slabs c = search needs
 put-slabs-requires : tie.Need-put-slabs-requires
 put-slabs-requires c κs = search needs
 
-slice-aggregate-put-crosswise : tie.Need-slice-aggregate-put-crosswise
-slice-aggregate-put-crosswise c = search needs
+slice-aggregate-put-slabs-2 : tie.Need-slice-aggregate-put-slabs-2
+slice-aggregate-put-slabs-2 c = search needs
 
-put-crosswise-requires : tie.Need-put-crosswise-requires
-put-crosswise-requires c κs = search needs
+put-slabs-requires-2 : tie.Need-put-slabs-requires-2
+put-slabs-requires-2 c κs = search needs
 
 slice-aggregate-join-line : tie.Need-slice-aggregate-join-line
 slice-aggregate-join-line c = search needs
@@ -53,8 +53,8 @@ slabs-line-spec =
     (tie.spec
     slice-aggregate-put-slabs
     put-slabs-requires
-    slice-aggregate-put-crosswise
-    put-crosswise-requires
+    slice-aggregate-put-slabs-2
+    put-slabs-requires-2
     slice-aggregate-join-line
     mul-along
     array-share-prefix-along

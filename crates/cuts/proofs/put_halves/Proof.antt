@@ -1,7 +1,7 @@
 -- `cuts::put_halves` meets its contract: refused where a half does not fit, else both are written.
 use denote.Ref.{now}
 use lib.ListN.{length}
-use Rattle.lists.proofs.Flags.{said-no, said-yes}
+use Rattle.meaning.proofs.Flags.{said-no, said-yes}
 use Rattle.cuts.proofs.Cuts.{fits-room, low-no-room, high-no-room, halves-done}
 use borrow.Author.Needs.{needs}
 use Rattle.cuts.proofs.put_halves.Statement.{statement}
@@ -16,7 +16,8 @@ has-room-requires c κs = search needs
 returns : tie.Need-returns
 returns c =
     let s = c .before .before .before .before in
-    low-no-room (now (s .args .lower)) (now (s .args .upper)) (now (s .args .low)) (now (s .args .high)) (said-no (c .before .has-room .ensures) (c .if1 .taken))
+    low-no-room (now (s .args .lower)) (now (s .args .upper)) (now (s .args .low)) (now (s .args .high))
+    (said-no (c .before .has-room .ensures) (c .if1 .taken))
 
 mul-has-room-2 : tie.Need-mul-has-room-2
 mul-has-room-2 c = search needs

@@ -2,7 +2,7 @@
 use Prim.Native.Nat.{_*_, _≤_}
 use denote.Ref.{now}
 use lib.ListN.{length}
-use Rattle.lists.proofs.Flags.{said-no, said-yes}
+use Rattle.meaning.proofs.Flags.{said-no, said-yes}
 use Rattle.cuts.proofs.Cuts.{fits-room, pairs-no-room, pairs-done}
 use borrow.Author.Needs.{needs}
 use Rattle.cuts.proofs.put_pairs.Statement.{statement}
@@ -19,7 +19,8 @@ has-room-requires c κs = search needs
 
 returns : tie.Need-returns
 returns c =
-    pairs-no-room (now (c .before .before .before .args .keys)) (now (c .before .before .before .args .out)) (said-no (c .before .has-room .ensures) (c .if1 .taken))
+    let s = c .before .before .before in
+    pairs-no-room (now (s .args .keys)) (now (s .args .out)) (said-no (c .before .has-room .ensures) (c .if1 .taken))
 
 write-pairs-requires : tie.Need-write-pairs-requires
 write-pairs-requires c κs = (c .before .before .before .before .pre, room (c .before))

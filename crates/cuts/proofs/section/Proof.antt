@@ -1,8 +1,9 @@
 -- `cuts::section` meets its promise, case by case.
-use mathlib.Core.Path.{_≡_, sym, _∙_, ap, subst}
+use mathlib.Core.Path.{_≡_, sym, _∙_, ap}
+use mathlib.Core.Bool.{true}
+use Prim.Native.Nat.{_≤_}
 use native.Mathlib.Omega.{arith}
 use denote.Ref.{now}
-use lib.IntN.{ℤ}
 use mir.Syntax.{w16}
 use mir.ValLaws.{toZ-ofZ}
 use Rattle.meaning.specs.Lists.{vertices, Valid}
@@ -10,9 +11,9 @@ use Rattle.meaning.specs.Verdicts.{verdict}
 use Rattle.meaning.specs.declared.Verdict.the-variants.{Valid as Passed}
 use Rattle.meaning.proofs.Checked.{verdict-valid}
 use Rattle.codes.specs.Lift.{lifted}
-use Rattle.cuts.specs.Answers.{sectionOutcome, sectionSays}
-use Rattle.cuts.specs.Axes.{axisAt}
-use Rattle.cuts.proofs.Promises.{code-low, code-high, code-in, number-back, section-no-axis, section-no-code, section-refused, section-made, refused-not}
+use Rattle.meaning.proofs.Flags.{said-no, said-yes}
+use Rattle.lists.proofs.Vertices.{length-vertices}
+use Rattle.cuts.proofs.Promises.{inRange, range-low, section-bad, section-refused, section-made, refused-not}
 use borrow.Author.Needs.{needs}
 use Rattle.cuts.proofs.section.Statement.{statement}
 use Rattle.cuts.proofs.section.Tie as tie
@@ -21,34 +22,34 @@ use Rattle.cuts.proofs.section.Tie as tie
 crossed : (c : tie.After-lift) → c .lift .result ≡ lifted (c .before .args .code)
 crossed c = c .lift .ensures ∙ ap lifted (toZ-ofZ w16 (c .before .args .code) (c .before .fits .code))
 
+-- what is asked is in range
+good : (c : tie.Else1) → inRange (c .before .before .before .args .axis) (c .before .before .lift .result) 33279 ≡ true
+good c = said-yes (c .before .in-range .ensures) (c .if1 .left)
+
+low : (c : tie.Else1) → 32256 ≤ c .before .before .lift .result
+low c = range-low (c .before .before .before .args .axis) (c .before .before .lift .result) 33279 (good c)
+
+abbrev asked : tie.After-enum-told → tie.Else1
+asked c = c .before .before .before
+
+abbrev start : tie.After-enum-told → tie.Start
+start c = asked c .before .before .before
+
 -- the list is a travel map
-told : (c : tie.After-enum-told) → verdict (now (c .before .before .before .before .before .before .before .args .list)) ≡ Passed
+told : (c : tie.After-enum-told) → verdict (now (start c .args .list)) ≡ Passed
 told c = sym (c .before .before .check .ensures) ∙ c .enum-told .given .1
 
-valid : (c : tie.After-enum-told) → Valid (vertices (now (c .before .before .before .before .before .before .before .args .list)))
-valid c = verdict-valid (now (c .before .before .before .before .before .before .before .args .list)) .0 (told c) .1
+valid : (c : tie.After-enum-told) → Valid (vertices (now (start c .args .list)))
+valid c = verdict-valid (now (start c .args .list)) .0 (told c) .1
 
 lift-requires : tie.Need-lift-requires
 lift-requires c κs = search needs
 
+in-range-requires : tie.Need-in-range-requires
+in-range-requires c κs = search needs
+
 returns : tie.Need-returns
-returns c =
-    let s = c .before .before in
-    section-no-axis (now (s .args .list)) (s .args .axis) (s .args .code) (now (s .args .out)) (c .if1 .taken)
-
-returns-2 : tie.Need-returns-2
-returns-2 c =
-    let earlier = c .before .before in
-    let s = earlier .before in
-    section-no-code (now (s .args .list)) (s .args .axis) (s .args .code) (now (s .args .out)) (omega arith)
-    (code-low (s .args .code) _ (crossed earlier) (omega arith))
-
-returns-3 : tie.Need-returns-3
-returns-3 c =
-    let earlier = c .before .before .before in
-    let s = earlier .before in
-    section-no-code (now (s .args .list)) (s .args .axis) (s .args .code) (now (s .args .out)) (omega arith)
-    (code-high (s .args .code) _ (crossed earlier) (omega arith))
+returns c = section-bad _ _ _ _ _ (crossed (c .before .before)) (said-no (c .before .in-range .ensures) (c .if1 .taken))
 
 check-requires : tie.Need-check-requires
 check-requires c κs = search needs
@@ -56,46 +57,61 @@ check-requires c κs = search needs
 enum-told : tie.Need-enum-told
 enum-told c = search needs
 
-cast-section-of : tie.Need-cast-section-of
-cast-section-of c = search needs
+sub-cut : tie.Need-sub-cut
+sub-cut c = low (asked c)
 
-section-of-requires : tie.Need-section-of-requires
-section-of-requires c κs = valid (c .before)
+cast-cut : tie.Need-cast-cut
+cast-cut c = search needs
+
+mul-if2 : tie.Need-mul-if2
+mul-if2 c = search needs
+
+section-of-few-requires : tie.Need-section-of-few-requires
+section-of-few-requires c κs = let t = c .before .before in (valid t, omega (arith, length-vertices (now (start t .args .list))))
 
 same-length : tie.Need-same-length
 same-length c = search needs
 
+returns-2 : tie.Need-returns-2
+returns-2 c =
+    let made = c .before in
+    let t = made .before .before .before in
+    section-made _ _ _ _ _ (crossed (asked t .before .before)) (good (asked t)) (told t) _ _ (made .section-of-few .ensures)
+
+section-of-many-requires : tie.Need-section-of-many-requires
+section-of-many-requires c κs = valid (c .before .before)
+
+same-length-2 : tie.Need-same-length-2
+same-length-2 c = search needs
+
+returns-3 : tie.Need-returns-3
+returns-3 c =
+    let made = c .before in
+    let t = made .before .before .before in
+    section-made _ _ _ _ _ (crossed (asked t .before .before)) (good (asked t)) (told t) _ _ (made .section-of-many .ensures)
+
 returns-4 : tie.Need-returns-4
 returns-4 c =
-    let earlier = c .before .before .before in
-    let earlier-2 = earlier .before .before .before .before .before .before in
-    let s = earlier-2 .before in
-    let u = crossed earlier-2 in
-    section-made (now (s .args .list)) (s .args .axis) (s .args .code) (now (s .args .out)) (omega arith)
-    (code-in (s .args .code) _ u (omega arith) (omega arith)) (told earlier) (c .before .section-of .result) (c .before .section-of .last .1 .1 .1 .0)
-    (subst (λ (k : ℤ). sectionOutcome (axisAt (s .args .axis)) k (now (s .args .list)) (now (s .args .out)) ≡ sectionSays (c .before .section-of .result) (c .before .section-of .last .1 .1 .1 .0))
-    (number-back (s .args .code) _ u (omega arith) (omega arith)) (c .before .section-of .ensures))
-
-returns-5 : tie.Need-returns-5
-returns-5 c =
-    let earlier = c .before .before .before .before .before in
-    let s = earlier .before in
     let v = c .before .check in
-    section-refused (now (s .args .list)) (s .args .axis) (s .args .code) (now (s .args .out)) (omega arith)
-    (code-in (s .args .code) _ (crossed earlier) (omega arith) (omega arith)) (v .result) (v .ensures) (refused-not (v .result) (c .match .keys2))
+    let a = c .before .before in
+    section-refused _ _ _ _ _ (crossed (a .before .before)) (good a) (v .result) (v .ensures) (refused-not (v .result) (c .match .keys2))
 
 pub section-spec : {M : Type 1} → statement M
 section-spec =
     tie.close
     (tie.spec
     lift-requires
+    in-range-requires
     returns
-    returns-2
-    returns-3
     check-requires
     enum-told
-    cast-section-of
-    section-of-requires
+    sub-cut
+    cast-cut
+    mul-if2
+    section-of-few-requires
     same-length
-    returns-4
-    returns-5)
+    returns-2
+    section-of-many-requires
+    same-length-2
+    returns-3
+    returns-4)

@@ -1,14 +1,9 @@
--- `cuts::section_with` meets its contract: the pair keys in order are those of the one list of the section.
-use mathlib.Core.Path.{sym, _∙_, ap, subst}
-use mathlib.Core.List.{map}
+-- `cuts::section_with` meets its contract: the pair keys are those of the one list of the section.
+use mathlib.Core.Path.{sym, _∙_, ap}
+use native.Mathlib.Omega.{arith}
 use denote.Ref.{now}
 use lib.Seq.{length-take-le}
-use Rattle.meaning.specs.Counting.{All}
-use Rattle.meaning.specs.Lists.{vertices}
-use Rattle.keys.specs.Parts.{PairOk, pairOfKey}
 use Rattle.cuts.specs.Answers.{placedPairs}
-use Rattle.cuts.specs.Axes.{axisAt}
-use Rattle.cuts.proofs.Cuts.{front-few, section-ok, section-list}
 use borrow.Author.Needs.{needs}
 use Rattle.cuts.proofs.section_with.Statement.{statement}
 use Rattle.cuts.proofs.section_with.Tie as tie
@@ -17,17 +12,13 @@ section-keys-requires : tie.Need-section-keys-requires
 section-keys-requires c κs = search needs
 
 slice-reshare-prefix-put-pairs : tie.Need-slice-reshare-prefix-put-pairs
-slice-reshare-prefix-put-pairs c = front-few (c .before .before .before .before .section-keys .ensures)
+slice-reshare-prefix-put-pairs c = search needs
 
 slice-aggregate-put-pairs : tie.Need-slice-aggregate-put-pairs
-slice-aggregate-put-pairs c = sym (length-take-le _ _ (front-few (c .before .before .before .before .before .section-keys .ensures)))
+slice-aggregate-put-pairs c = sym (length-take-le _ _ (omega arith))
 
 put-pairs-requires : tie.Need-put-pairs-requires
-put-pairs-requires c κs =
-    let at-section-keys = c .before .before .before .before .before .before in
-    let s = at-section-keys .before .before .before .before .before in
-    subst (All PairOk) (sym (at-section-keys .section-keys .ensures .contents))
-    (section-ok (axisAt (s .args .axis)) (vertices (now (s .args .list))) (s .pre .0) (s .args .cut))
+put-pairs-requires c κs = search needs
 
 same-length : tie.Need-same-length
 same-length c = search needs
@@ -40,14 +31,9 @@ same-length-3 c = search needs
 
 returns : tie.Need-returns
 returns c =
-    let at-section-keys = c .before .before .before .before .before .before .before .before in
-    let s = at-section-keys .before .before .before .before .before in
-    ap (λ ps. placedPairs ps (now (s .args .out)))
-    (sym
-    (ap (map pairOfKey) (at-section-keys .section-keys .ensures .contents) ∙ section-list (axisAt (s .args .axis)) (vertices (now (s .args .list)))
-    (s .pre .0) (s .args .cut)))
-    ∙
-    c .before .put-pairs .ensures
+    let keys = c .before .before .before .before .before .before .before .before in
+    let s = keys .before .before .before .before .before in
+    ap (λ ps. placedPairs ps (now (s .args .out))) (sym (keys .section-keys .ensures .members)) ∙ c .before .put-pairs .ensures
 
 pub section-with-spec : {M : Type 1} → statement M
 section-with-spec =

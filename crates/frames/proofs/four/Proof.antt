@@ -1,8 +1,19 @@
 -- `frames::four` meets its contract: the four digits, by the first that is none.
 use borrow.Author.Needs.{needs}
-use Rattle.frames.proofs.FrameLaws.{four-ill₁, four-ill₂, four-ill₃, four-ill₄, four-whole}
+use denote.Ref.{now}
+use Rattle.frames.proofs.FrameLaws.{Values, four-ill₁, four-ill₂, four-ill₃, four-ill₄, four-whole}
 use Rattle.frames.proofs.four.Statement.{statement}
 use Rattle.frames.proofs.four.Tie as tie
+
+-- the values of the four bytes, where the last is read
+values : (c : tie.After-digit4) → let at-third = c .before .before in let at-second = at-third .before .before in let at-first = at-second .before .before in
+    let a = at-first .before .before .before .args in
+    Values (now (a .s)) (a .at) (at-first .digit .result) (at-second .digit2 .result) (at-third .digit3 .result) (c .digit4 .result)
+values c =
+    let at-third = c .before .before in
+    let at-second = at-third .before .before in
+    let at-first = at-second .before .before in
+    record { one = at-first .digit .ensures; two = at-second .digit2 .ensures; three = at-third .digit3 .ensures; four = c .digit4 .ensures }
 
 shared-slice-read-digit : tie.Need-shared-slice-read-digit
 shared-slice-read-digit c = search needs
@@ -38,16 +49,18 @@ digit-requires-4 : tie.Need-digit-requires-4
 digit-requires-4 c κs = search needs
 
 returns : tie.Need-returns
-returns c = let q = c .before in four-ill₁ _ _ _ _ _ _ (q .before .before .before .before .before .before .digit .ensures) (q .before .before .before .before .digit2 .ensures) (q .before .before .digit3 .ensures) (q .digit4 .ensures) (c .if1 .taken)
+returns c = four-ill₁ (values (c .before)) (c .if1 .taken)
 
 returns-2 : tie.Need-returns-2
-returns-2 c = let q = c .before .before in four-ill₂ _ _ _ _ _ _ (q .before .before .before .before .before .before .digit .ensures) (q .before .before .before .before .digit2 .ensures) (q .before .before .digit3 .ensures) (q .digit4 .ensures) (c .before .if1 .left) (c .if2 .taken)
+returns-2 c = four-ill₂ (values (c .before .before)) (c .before .if1 .left) (c .if2 .taken)
 
 returns-3 : tie.Need-returns-3
-returns-3 c = let q = c .before .before .before in four-ill₃ _ _ _ _ _ _ (q .before .before .before .before .before .before .digit .ensures) (q .before .before .before .before .digit2 .ensures) (q .before .before .digit3 .ensures) (q .digit4 .ensures) (c .before .before .if1 .left) (c .before .if2 .left) (c .if3 .taken)
+returns-3 c = four-ill₃ (values (c .before .before .before)) (c .before .before .if1 .left) (c .before .if2 .left) (c .if3 .taken)
 
 returns-4 : tie.Need-returns-4
-returns-4 c = let q = c .before .before .before .before in four-ill₄ _ _ _ _ _ _ (q .before .before .before .before .before .before .digit .ensures) (q .before .before .before .before .digit2 .ensures) (q .before .before .digit3 .ensures) (q .digit4 .ensures) (c .before .before .before .if1 .left) (c .before .before .if2 .left) (c .before .if3 .left) (c .if4 .taken)
+returns-4 c =
+    four-ill₄ (values (c .before .before .before .before)) (c .before .before .before .if1 .left) (c .before .before .if2 .left) (c .before .if3 .left)
+    (c .if4 .taken)
 
 mul-t14 : tie.Need-mul-t14
 mul-t14 c = search needs
@@ -68,7 +81,9 @@ add-t19 : tie.Need-add-t19
 add-t19 c = search needs
 
 returns-5 : tie.Need-returns-5
-returns-5 c = let q = c .before .before .before .before in four-whole _ _ _ _ _ _ (q .before .before .before .before .before .before .digit .ensures) (q .before .before .before .before .digit2 .ensures) (q .before .before .digit3 .ensures) (q .digit4 .ensures) (c .before .before .before .if1 .left) (c .before .before .if2 .left) (c .before .if3 .left) (c .if4 .left)
+returns-5 c =
+    four-whole (values (c .before .before .before .before)) (c .before .before .before .if1 .left) (c .before .before .if2 .left) (c .before .if3 .left)
+    (c .if4 .left)
 
 pub four-spec : {M : Type 1} → statement M
 four-spec =

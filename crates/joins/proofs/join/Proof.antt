@@ -1,12 +1,30 @@
-use mathlib.Core.Path.{sym, ap, _∙_}
-use borrow.Author.Tests.{not-true, not-false}
-use Rattle.meaning.specs.Operations.{operation, exclusive}
-use Rattle.meaning.specs.Verdicts.{passes}
-use Rattle.meaning.proofs.Checked.{passes-valid}
-use Rattle.joins.proofs.Whole.{bad-low, bad-high, first-refused, second-refused, joined-by, joined-all}
+-- `joins::join` meets its contract: its answers are the promised ones, case by case.
 use borrow.Author.Needs.{needs}
+use mathlib.Core.Path.{_≡_, sym, ap, _∙_}
+use mathlib.Core.Bool.{true}
+use borrow.Author.Tests.{not-true, not-false}
+use Rattle.meaning.specs.Verdicts.{verdict, passes}
+use Rattle.meaning.proofs.Checked.{passes-valid}
+use Rattle.joins.proofs.Answers.{triple-room, bad-low, bad-high, first-refused, second-refused, joined, no-room}
 use Rattle.joins.proofs.join.Statement.{statement}
 use Rattle.joins.proofs.join.Tie as tie
+
+-- ---- the states, each seen from the next, and what they show of the two lists
+
+abbrev low : tie.Else2 → tie.Else1
+low e = e .before
+
+abbrev first : tie.Else3 → tie.Else2
+first e = e .before .before .before
+
+abbrev second : tie.Else4 → tie.Else3
+second e = e .before .before .before
+
+passes-a : (e : tie.Else3) → passes (verdict (low (first e) .before .args .a .now)) ≡ true
+passes-a e = ap passes (sym (e .before .before .check .ensures)) ∙ sym (e .before .is-valid .ensures) ∙ not-false _ (e .if3 .left)
+
+passes-b : (e : tie.Else4) → passes (verdict (low (first (second e)) .before .args .b .now)) ≡ true
+passes-b e = ap passes (sym (e .before .before .check2 .ensures)) ∙ sym (e .before .is-valid2 .ensures) ∙ not-false _ (e .if4 .left)
 
 returns : tie.Need-returns
 returns c = bad-low _ _ _ _ (c .if1 .taken)
@@ -22,10 +40,8 @@ is-valid-requires c κs = search needs
 
 returns-3 : tie.Need-returns-3
 returns-3 c =
-    let at-check = c .before .before in
-    let at-if2 = at-check .before in
-    let at-if1 = at-if2 .before in
-    first-refused _ _ _ _ (at-if1 .if1 .left) (at-if2 .if2 .left) _ (at-check .check .ensures)
+    let g = c .before .before .before in
+    first-refused _ _ _ _ (low g .if1 .left) (g .if2 .left) _ (c .before .before .check .ensures)
     (sym (c .before .is-valid .ensures) ∙ not-true _ (c .if3 .taken))
 
 check-requires-2 : tie.Need-check-requires-2
@@ -36,76 +52,40 @@ is-valid-requires-2 c κs = search needs
 
 returns-4 : tie.Need-returns-4
 returns-4 c =
-    let at-check2 = c .before .before in
-    let at-if3 = at-check2 .before in
-    let at-is-valid = at-if3 .before in
-    let at-check = at-is-valid .before in
-    let at-if2 = at-check .before in
-    let at-if1 = at-if2 .before in
-    second-refused _ _ _ _ (at-if1 .if1 .left) (at-if2 .if2 .left)
-    (ap passes (sym (at-check .check .ensures)) ∙ sym (at-is-valid .is-valid .ensures) ∙ not-false _ (at-if3 .if3 .left)) _ (at-check2 .check2 .ensures)
+    let f = c .before .before .before in
+    let g = first f in
+    second-refused _ _ _ _ (low g .if1 .left) (g .if2 .left) (passes-a f) _ (c .before .before .check2 .ensures)
     (sym (c .before .is-valid2 .ensures) ∙ not-true _ (c .if4 .taken))
 
-join-by-merge-requires : tie.Need-join-by-merge-requires
-join-by-merge-requires c κs =
-    let at-if4 = c .before .before in
-    let at-is-valid2 = at-if4 .before in
-    let at-check2 = at-is-valid2 .before in
-    let at-if3 = at-check2 .before in
-    let at-is-valid = at-if3 .before in
-    let at-check = at-is-valid .before in (
-      passes-valid _ (ap passes (sym (at-check .check .ensures)) ∙ sym (at-is-valid .is-valid .ensures) ∙ not-false _ (at-if3 .if3 .left)),
-      passes-valid _ (ap passes (sym (at-check2 .check2 .ensures)) ∙ sym (at-is-valid2 .is-valid2 .ensures) ∙ not-false _ (at-if4 .if4 .left)),
-    )
+fitting-requires : tie.Need-fitting-requires
+fitting-requires c κs = search needs
+
+join-valid-requires : tie.Need-join-valid-requires
+join-valid-requires c κs =
+    let e = c .before .before in
+    ((passes-valid _ (passes-a (second e)), passes-valid _ (passes-b e)), triple-room (c .before .fitting .ensures))
 
 same-length : tie.Need-same-length
 same-length c = search needs
 
 returns-5 : tie.Need-returns-5
 returns-5 c =
-    let at-if5 = c .before .before .before in
-    let at-if4 = at-if5 .before in
-    let at-is-valid2 = at-if4 .before in
-    let at-check2 = at-is-valid2 .before in
-    let at-if3 = at-check2 .before in
-    let at-is-valid = at-if3 .before in
-    let at-check = at-is-valid .before in
-    let at-if2 = at-check .before in
-    let at-if1 = at-if2 .before in
-    joined-by _ _ _ _ (at-if1 .if1 .left) (at-if2 .if2 .left)
-    (ap passes (sym (at-check .check .ensures)) ∙ sym (at-is-valid .is-valid .ensures) ∙ not-false _ (at-if3 .if3 .left))
-    (ap passes (sym (at-check2 .check2 .ensures)) ∙ sym (at-is-valid2 .is-valid2 .ensures) ∙ not-false _ (at-if4 .if4 .left)) exclusive
-    (ap operation (at-if5 .if5 .taken)) _ _ (c .before .join-by-merge .ensures)
-
-join-by-sweep-requires : tie.Need-join-by-sweep-requires
-join-by-sweep-requires c κs =
-    let at-if4 = c .before .before in
-    let at-is-valid2 = at-if4 .before in
-    let at-check2 = at-is-valid2 .before in
-    let at-if3 = at-check2 .before in
-    let at-is-valid = at-if3 .before in
-    let at-check = at-is-valid .before in (
-      passes-valid _ (ap passes (sym (at-check .check .ensures)) ∙ sym (at-is-valid .is-valid .ensures) ∙ not-false _ (at-if3 .if3 .left)),
-      passes-valid _ (ap passes (sym (at-check2 .check2 .ensures)) ∙ sym (at-is-valid2 .is-valid2 .ensures) ∙ not-false _ (at-if4 .if4 .left)),
-    )
+    let e = c .before .before .before .before .before in
+    let f = second e in
+    let g = first f in
+    no-room _ _ _ _ (low g .if1 .left) (g .if2 .left) (passes-a f) (passes-b e) (c .before .before .before .before .fitting .ensures)
+    (c .before .before .join-valid .ensures) (c .if5 .taken)
 
 same-length-2 : tie.Need-same-length-2
 same-length-2 c = search needs
 
 returns-6 : tie.Need-returns-6
 returns-6 c =
-    let at-if4 = c .before .before .before .before in
-    let at-is-valid2 = at-if4 .before in
-    let at-check2 = at-is-valid2 .before in
-    let at-if3 = at-check2 .before in
-    let at-is-valid = at-if3 .before in
-    let at-check = at-is-valid .before in
-    let at-if2 = at-check .before in
-    let at-if1 = at-if2 .before in
-    joined-all _ _ _ _ (at-if1 .if1 .left) (at-if2 .if2 .left)
-    (ap passes (sym (at-check .check .ensures)) ∙ sym (at-is-valid .is-valid .ensures) ∙ not-false _ (at-if3 .if3 .left))
-    (ap passes (sym (at-check2 .check2 .ensures)) ∙ sym (at-is-valid2 .is-valid2 .ensures) ∙ not-false _ (at-if4 .if4 .left)) _ _
-    (c .before .join-by-sweep .ensures)
+    let e = c .before .before .before .before .before in
+    let f = second e in
+    let g = first f in
+    joined _ _ _ _ (low g .if1 .left) (g .if2 .left) (passes-a f) (passes-b e) (c .before .before .before .before .fitting .ensures)
+    (c .before .before .join-valid .ensures) (c .if5 .left)
 
 pub join-spec : {M : Type 1} → statement M
 join-spec =
@@ -119,9 +99,9 @@ join-spec =
     check-requires-2
     is-valid-requires-2
     returns-4
-    join-by-merge-requires
+    fitting-requires
+    join-valid-requires
     same-length
     returns-5
-    join-by-sweep-requires
     same-length-2
     returns-6)

@@ -30,11 +30,10 @@ same-length-2 c = search needs
 returns-2 : tie.Need-returns-2
 returns-2 c = search needs
 
-mul-if3 : tie.Need-mul-if3
-mul-if3 c = search needs
-
-join-many-requires-3 : tie.Need-join-many-requires-3
-join-many-requires-3 c κs = search needs
+join-few-requires : tie.Need-join-few-requires
+join-few-requires c κs =
+    let s = c .before .before .before .before in
+    (s .pre .0, ((omega (arith, length-vertices (now (s .args .a))), omega (arith, length-vertices (now (s .args .b)))), (omega arith, s .pre .1 .1)))
 
 same-length-3 : tie.Need-same-length-3
 same-length-3 c = search needs
@@ -44,8 +43,13 @@ returns-3 c = search needs
 
 join-small-requires : tie.Need-join-small-requires
 join-small-requires c κs =
-    let s = c .before .before .before .before in
-    (s .pre, ((omega (arith, length-vertices (now (s .args .a))), omega (arith, length-vertices (now (s .args .b)))), omega arith))
+    let s = c .before .before .before .before in (
+      s .pre .0,
+      (
+        (omega (arith, length-vertices (now (s .args .a))), omega (arith, length-vertices (now (s .args .b)))),
+        (omega arith, s .pre .1 .0, s .pre .1 .1),
+      ),
+    )
 
 same-length-4 : tie.Need-same-length-4
 same-length-4 c = search needs
@@ -65,8 +69,7 @@ join-by-sweep-spec =
     join-many-requires-2
     same-length-2
     returns-2
-    mul-if3
-    join-many-requires-3
+    join-few-requires
     same-length-3
     returns-3
     join-small-requires

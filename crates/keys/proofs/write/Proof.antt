@@ -1,26 +1,27 @@
 -- `keys::write` meets its contract: each turn writes the three numbers of the next key's corner.
-use mathlib.Core.List.{map}
+use mathlib.Core.List.{[], _∷_, map}
 use Prim.Native.Nat.{_-_}
-use mathlib.Core.Path.{refl}
+use mathlib.Core.Path.{refl, sym}
 use native.Mathlib.Omega.{arith}
 use denote.Ref.{now}
 use lib.ListN.{length, getD, length-set}
 use Rattle.meaning.specs.Lists.{numbers}
 use Rattle.codes.specs.Keys.{ofKey}
+use Rattle.rising.proofs.Written.{all-at}
 use Rattle.keys.specs.Parts.{KeyOk}
-use Rattle.keys.proofs.Filling.{Spelling, spelling-begins, next-good, spells-corner, spelling-ends, stored}
+use Rattle.keys.proofs.Filling.{Spelling, spelling-begins, spells, spelling-ends, stored}
 use borrow.Author.Needs.{needs}
 use Rattle.keys.proofs.write.Statement.{statement}
 use Rattle.keys.proofs.write.Tie as tie
 
 abbrev Inv-loop : tie.InvT-loop
-Inv-loop keys out₀ i₀ n₀ out i n = Spelling 3 (λ l. numbers (map ofKey l)) KeyOk keys out₀ out i n
+Inv-loop keys out₀ i₀ n₀ out i n = Spelling 3 (λ l. numbers (map ofKey l)) keys out₀ out i n
 
 abbrev μ-loop : tie.MeasureT-loop
 μ-loop keys out₀ i₀ n₀ out i n = length keys - i
 
 good : (c : tie.In-loop Inv-loop μ-loop) → KeyOk (getD (now (c .before .before .before .args .keys)) (c .before .loop .i) 0)
-good c = next-good _ _ _ _ _ _ _ _ (c .before .loop .inv) (omega arith)
+good c = all-at KeyOk (now (c .before .before .before .args .keys)) (c .before .before .before .pre .0) (c .before .loop .i) (omega arith)
 
 loop-holds : tie.Need-loop-holds Inv-loop μ-loop
 loop-holds c = search (spelling-begins, needs)
@@ -76,16 +77,17 @@ loop-less c = search needs
 loop-again : tie.Need-loop-again Inv-loop μ-loop
 loop-again c =
     let ok = good (c .before .before .before .before) in
-    spells-corner _ _ _ _ _ (c .before .before .before .before .before .loop .inv) (omega arith) _ _ _
-    (stored _ _ (ok .0) (c .before .before .number-of .ensures))
-    (stored _ _ (ok .1 .0) (c .before .number-of2 .ensures))
-    (stored _ _ (ok .1 .1) (c .number-of3 .ensures))
+    let x = stored _ _ (ok .0) (c .before .before .number-of .ensures) in
+    let y = stored _ _ (ok .1 .0) (c .before .number-of2 .ensures) in
+    let z = stored _ _ (ok .1 .1) (c .number-of3 .ensures) in
+    spells _ _ _ _ _ _ _ (c .before .before .before .before .before .loop .inv) (omega arith) (_ ∷ _ ∷ _ ∷ []) (omega arith) (omega arith)
+    (λ j. sym x j ∷ sym y j ∷ sym z j ∷ []) refl
 
 same-length : tie.Need-same-length Inv-loop μ-loop
 same-length c = search needs
 
 returns : tie.Need-returns Inv-loop μ-loop
-returns c = spelling-ends _ _ _ _ _ _ _ _ (c .before .loop .inv) refl (omega arith)
+returns c = spelling-ends _ _ _ _ _ _ _ (c .before .loop .inv) refl (omega arith)
 
 pub write-spec : {M : Type 1} → statement M
 write-spec =

@@ -1,13 +1,13 @@
 -- `lines::fill` meets its contract: the table holds what occurs an odd number of times among the keys read so far. Assumes nothing.
 use mathlib.Core.Path.{_≡_}
 use mathlib.Core.Bool.{false≢true}
-use Prim.Native.Nat.{_≤_, _<_, _-_}
+use Prim.Native.Nat.{_≤_, _-_}
 use native.Mathlib.Omega.{arith}
 use borrow.Author.Needs.{needs}
 use borrow.Author.Tests.{not-false}
 use lib.ListN.{length, take}
 use Rattle.lines.specs.Table.{Holds}
-use Rattle.lines.proofs.Table.{holds-next, holds-all}
+use Rattle.lines.proofs.Table.{holds-next, holds-all, parted-keyed}
 use Rattle.lines.proofs.fill.Statement.{statement}
 use Rattle.lines.proofs.fill.Tie as tie
 
@@ -21,26 +21,23 @@ abbrev μ-loop : tie.MeasureT-loop
 loop-holds : tie.Need-loop-holds Inv-loop μ-loop
 loop-holds c = search needs
 
-mul-key : tie.Need-mul-key Inv-loop μ-loop
-mul-key c = search needs
+mul-flip : tie.Need-mul-flip Inv-loop μ-loop
+mul-flip c = search needs
 
-shared-slice-read-key : tie.Need-shared-slice-read-key Inv-loop μ-loop
-shared-slice-read-key c = search needs
+shared-slice-read-flip : tie.Need-shared-slice-read-flip Inv-loop μ-loop
+shared-slice-read-flip c = search needs
+
+flip-requires : tie.Need-flip-requires Inv-loop μ-loop
+flip-requires c κs =
+    let k = c .before .before .before in
+    let s = k .before .before .before in
+    (parted-keyed (s .args .keys .now) (s .pre .0) (k .loop .done) (c .before .before .loop-test .taken), search needs)
 
 same-length : tie.Need-same-length Inv-loop μ-loop
 same-length c = search needs
 
 returns : tie.Need-returns Inv-loop μ-loop
 returns c = λ q. absurd (false≢true q)
-
-flip-requires : tie.Need-flip-requires Inv-loop μ-loop
-flip-requires c κs = search needs
-
-same-length-2 : tie.Need-same-length-2 Inv-loop μ-loop
-same-length-2 c = search needs
-
-returns-2 : tie.Need-returns-2 Inv-loop μ-loop
-returns-2 c = λ q. absurd (false≢true q)
 
 add-done : tie.Need-add-done Inv-loop μ-loop
 add-done c = search needs
@@ -50,17 +47,16 @@ loop-less c = search needs
 
 loop-again : tie.Need-loop-again Inv-loop μ-loop
 loop-again c =
-    let inside : c .before .before .before .before .before .before .before .before .loop .done < length (c .before .before .before .before .before .before .before .before .before .before .before .args .keys .now) = omega arith in
-    let flips = c .before .before .before .flip .ensures (not-false _ (c .if2 .left)) in
-    (omega arith, (omega arith, holds-next _ _ _ _ inside (c .before .before .before .before .before .before .before .before .loop .inv .1 .1) flips))
+    let f = c .before .before .before in
+    let test = f .before .before .before in
+    let flips = f .flip .ensures (not-false _ (c .if1 .left)) in
+    (omega arith, (omega arith, holds-next _ _ _ _ (test .loop-test .taken) (test .before .loop .inv .1 .1) flips))
 
-same-length-3 : tie.Need-same-length-3 Inv-loop μ-loop
-same-length-3 c = search needs
+same-length-2 : tie.Need-same-length-2 Inv-loop μ-loop
+same-length-2 c = search needs
 
-returns-3 : tie.Need-returns-3 Inv-loop μ-loop
-returns-3 c = λ _.
-    let all : length (c .before .before .before .before .args .keys .now) ≤ c .before .loop .done = omega arith in
-    holds-all _ _ _ all (c .before .loop .inv .1 .1)
+returns-2 : tie.Need-returns-2 Inv-loop μ-loop
+returns-2 c = λ _. holds-all _ _ _ (c .loop-test .left) (c .before .loop .inv .1 .1)
 
 pub fill-spec : {M : Type 1} → statement M
 fill-spec =
@@ -69,15 +65,13 @@ fill-spec =
     Inv-loop
     μ-loop
     loop-holds
-    mul-key
-    shared-slice-read-key
+    mul-flip
+    shared-slice-read-flip
+    flip-requires
     same-length
     returns
-    flip-requires
-    same-length-2
-    returns-2
     add-done
     loop-less
     loop-again
-    same-length-3
-    returns-3)
+    same-length-2
+    returns-2)

@@ -6,8 +6,8 @@ use native.Mathlib.Omega.{arith}
 use borrow.Author.Needs.{needs}
 use borrow.Author.Count.{below-none, below-more}
 use lib.ListN.{length}
-use Rattle.lines.specs.Odd.{occursOddly}
-use Rattle.lines.proofs.First.{first-is, first-end}
+use Rattle.chains.specs.Odd.{occursOddly}
+use Rattle.meaning.proofs.First.{first-stop, first-none}
 use Rattle.lines.proofs.first_by_counting.Statement.{statement}
 use Rattle.lines.proofs.first_by_counting.Tie as tie
 
@@ -31,13 +31,8 @@ occurs-oddly-requires c κs = search needs
 
 returns : tie.Need-returns Inv-loop μ-loop
 returns c =
-    first-is
-    _
-    _
-    _
-    (c .before .before .before .before .loop .inv .0)
-    (c .before .before .before .before .loop .inv .1)
-    (λ _. sym (c .before .occurs-oddly .ensures) ∙ c .if1 .taken)
+    first-stop _ _ _ (c .before .before .before .loop-test .taken) (c .before .before .before .before .loop .inv .1)
+    (sym (c .before .occurs-oddly .ensures) ∙ c .if1 .taken)
 
 add-place : tie.Need-add-place Inv-loop μ-loop
 add-place c = search needs
@@ -52,7 +47,9 @@ loop-again c = (
 )
 
 returns-2 : tie.Need-returns-2 Inv-loop μ-loop
-returns-2 c = first-end _ _ _ (c .before .loop .inv .0) (c .before .loop .inv .1) (c .loop-test .left)
+returns-2 c =
+    let end : c .before .loop .place ≡ length (c .before .before .before .args .keys .now) = omega arith in
+    first-none _ _ end (c .before .loop .inv .1)
 
 pub first-by-counting-spec : {M : Type 1} → statement M
 first-by-counting-spec =

@@ -1,5 +1,7 @@
--- `lines::first_odd` meets its contract: one of the three searches answers. Assumes nothing.
+-- `lines::first_odd` meets its contract: counting, the table or the chains answer. Assumes nothing.
+use mathlib.Core.Path.{refl}
 use borrow.Author.Needs.{needs}
+use Rattle.meaning.proofs.First.{first-none}
 use Rattle.lines.proofs.first_odd.Statement.{statement}
 use Rattle.lines.proofs.first_odd.Tie as tie
 
@@ -9,14 +11,14 @@ first-by-counting-requires c κs = search needs
 returns : tie.Need-returns
 returns c = search needs
 
-first-by-small-requires : tie.Need-first-by-small-requires
-first-by-small-requires c κs = search needs
+shown-even-requires : tie.Need-shown-even-requires
+shown-even-requires c κs = search needs
 
 returns-2 : tie.Need-returns-2
-returns-2 c = search needs
+returns-2 c = first-none _ _ refl (c .before .shown-even .ensures (c .if2 .taken))
 
-first-by-large-requires : tie.Need-first-by-large-requires
-first-by-large-requires c κs = search needs
+first-by-chains-requires : tie.Need-first-by-chains-requires
+first-by-chains-requires c κs = search needs
 
 returns-3 : tie.Need-returns-3
 returns-3 c = search needs
@@ -27,7 +29,7 @@ first-odd-spec =
     (tie.spec
     first-by-counting-requires
     returns
-    first-by-small-requires
+    shown-even-requires
     returns-2
-    first-by-large-requires
+    first-by-chains-requires
     returns-3)

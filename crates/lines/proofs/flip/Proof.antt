@@ -16,7 +16,7 @@ Inv-loop table₀ key half at₀ tries₀ table at tries =
     (at < length table) × ((length table ≡ length table₀) × (table ≡ table₀))
 
 abbrev μ-loop : tie.MeasureT-loop
-μ-loop table₀ key half at₀ tries₀ table at tries = 64 - tries
+μ-loop table₀ key half at₀ tries₀ table at tries = 16 - tries
 
 add-half : tie.Need-add-half Inv-loop μ-loop
 add-half c = search needs

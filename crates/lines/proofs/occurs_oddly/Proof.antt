@@ -7,7 +7,7 @@ use borrow.Author.Needs.{needs}
 use lib.Dec.{eqb}
 use lib.ListN.{length, take}
 use Rattle.meaning.specs.Counting.{count, odd}
-use Rattle.lines.proofs.Parity.{odd-read, odd-whole}
+use Rattle.chains.proofs.Parity.{odd-read, odd-whole}
 use Rattle.lines.proofs.occurs_oddly.Statement.{statement}
 use Rattle.lines.proofs.occurs_oddly.Tie as tie
 

@@ -6,9 +6,9 @@ use borrow.Author.Needs.{needs}
 use native.Mathlib.Omega.{arith}
 use denote.Ref.{now}
 use lib.IntN.{pos}
-use lib.ListN.{length, getD}
+use lib.ListN.{getD}
 use Rattle.meaning.specs.Numbers.{isNumber}
-use Rattle.lists.proofs.Flags.{flag-more}
+use Rattle.meaning.proofs.Flags.{flag-more}
 use Rattle.lists.proofs.all_numbers.Statement.{statement}
 use Rattle.lists.proofs.all_numbers.Tie as tie
 

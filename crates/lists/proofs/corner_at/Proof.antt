@@ -3,7 +3,7 @@ use borrow.Author.Needs.{needs}
 use denote.Ref.{now}
 use Rattle.meaning.specs.Numbers.{Corner, isNumber}
 use Rattle.codes.specs.Keys.{cornerAt}
-use Rattle.lists.proofs.Flags.{said-no, said-yes, all-first, all-second, all-third}
+use Rattle.meaning.proofs.Flags.{said-no, said-yes, all-first, all-second, all-third}
 use Rattle.lists.proofs.corner_at.Statement.{statement}
 use Rattle.lists.proofs.corner_at.Tie as tie
 

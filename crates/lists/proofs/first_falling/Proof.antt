@@ -13,8 +13,7 @@ use lib.IntN.{ℤ}
 use lib.ListN.{length}
 use Rattle.meaning.specs.Lists.{vertices}
 use Rattle.meaning.specs.Verdicts.{fallsAt}
-use Rattle.codes.specs.Keys.{keyOf, cornerAt}
-use Rattle.lists.proofs.First.{first-stop, first-none}
+use Rattle.meaning.proofs.First.{first-stop, first-none}
 use Rattle.lists.proofs.Rising.{first-rises}
 use Rattle.lists.proofs.Vertices.{length-vertices, falls-key}
 use Rattle.lists.proofs.first_falling.Statement.{statement}

@@ -9,8 +9,8 @@ use lib.IntN.{ℤ}
 use lib.ListN.{length, take}
 use lib.Seq.{length-take-le}
 use Rattle.meaning.specs.Lists.{vertices}
-use Rattle.lines.specs.Odd.{firstOdd}
-use Rattle.lists.proofs.Lines.{keys-filled, first-odd-line}
+use Rattle.chains.specs.Odd.{firstOdd}
+use Rattle.lists.proofs.Lines.{filled-parted, keys-filled, first-odd-line}
 use Rattle.lists.proofs.Vertices.{length-vertices}
 use Rattle.lists.proofs.first_odd_pair.Statement.{statement}
 use Rattle.lists.proofs.first_odd_pair.Tie as tie
@@ -38,7 +38,14 @@ slice-aggregate-first-odd c =
     sym (length-take-le (length l / 3) (keys k) (omega (arith, room k, length-vertices l)))
 
 first-odd-requires : tie.Need-first-odd-requires
-first-odd-requires c κs = search needs
+first-odd-requires c κs =
+    let k = c .before .before .before in
+    let start = k .before .before .before in
+    let l = numbers start in
+    let room-n : length l / 3 ≤ length (keys k) = omega (arith, room k, length-vertices l) in (
+      filled-parted l (start .args .a) (start .args .b) (length l / 3) (keys k) (start .pre .0) (start .pre .1 .0) (sym (length-vertices l)) room-n (k .fill .ensures),
+      omega (arith, length-take-le (length l / 3) (keys k) room-n, length-vertices l, start .pre .1 .1 .1),
+    )
 
 same-length : tie.Need-same-length
 same-length c = search needs

@@ -11,7 +11,7 @@ use lib.IntN.{ℤ}
 use lib.ListN.{length}
 use Rattle.meaning.specs.Lists.{vertices}
 use Rattle.meaning.specs.Verdicts.{outsideAt}
-use Rattle.lists.proofs.First.{first-stop, first-none}
+use Rattle.meaning.proofs.First.{first-stop, first-none}
 use Rattle.lists.proofs.Vertices.{length-vertices, outside-at, numbers-range}
 use Rattle.lists.proofs.first_outside.Statement.{statement}
 use Rattle.lists.proofs.first_outside.Tie as tie

@@ -15,10 +15,14 @@ abbrev corners : tie.Start → List Corner
 corners c = vertices (now (c .args .list))
 
 -- the place on the other two axes
-along-focus : (c : tie.After-first-odd-pair) → c .first-odd-pair .result ≡ firstOn focus (corners (c .before .before .before .before .before .before .before .before))
+along-focus : (c : tie.After-first-odd-pair) →
+    let start = c .before .before .before .before .before .before .before .before in
+    c .first-odd-pair .result ≡ firstOn focus (corners start)
 along-focus c = c .first-odd-pair .ensures focus (refl, refl)
 
-along-first : (c : tie.After-first-odd-pair2) → c .first-odd-pair2 .result ≡ firstOn first (corners (c .before .before .before .before .before .before .before .before .before .before .before .before .before))
+along-first : (c : tie.After-first-odd-pair2) →
+    let start = c .before .before .before .before .before .before .before .before .before .before .before .before .before in
+    c .first-odd-pair2 .result ≡ firstOn first (corners start)
 along-first c = c .first-odd-pair2 .ensures first (refl, refl)
 
 first-along-second-requires : tie.Need-first-along-second-requires

@@ -11,7 +11,7 @@ use lib.Dec.{eqb}
 use lib.IntN.{ℤ}
 use lib.ListN.{length}
 use Rattle.meaning.proofs.Integers.{and-left, and-right}
-use Rattle.lines.proofs.Parity.{Evenly}
+use Rattle.chains.proofs.Parity.{Evenly}
 use Rattle.lists.proofs.Lines.{lineKeys, evenly-more, evenly-all}
 use Rattle.lists.proofs.Vertices.{length-vertices}
 use Rattle.lists.proofs.in_pairs.Statement.{statement}

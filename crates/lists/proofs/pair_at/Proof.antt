@@ -1,12 +1,14 @@
 -- `lists::pair_at` meets its contract: the steps of two corner numbers, as one number.
-use mathlib.Core.Path.{ap₂}
+use mathlib.Core.Path.{_≡_, ap₂}
+use mathlib.Core.Bool.{true}
 use mathlib.Core.List.{List}
-use Prim.Native.Nat.{_+_, _*_, _≤_, _<_}
+use Prim.Native.Nat.{ℕ, _+_, _*_, _≤_, _<_}
 use borrow.Author.Needs.{needs}
 use native.Mathlib.Omega.{arith}
 use denote.Ref.{now}
-use lib.IntN.{ℤ}
-use lib.ListN.{length}
+use lib.IntN.{ℤ, pos}
+use lib.ListN.{length, getD}
+use Rattle.meaning.specs.Numbers.{isNumber}
 use Rattle.meaning.specs.Lists.{vertices}
 use Rattle.lists.proofs.Vertices.{length-vertices, at-number, number-in, steps-in}
 use Rattle.lists.proofs.pair_at.Statement.{statement}
@@ -18,6 +20,11 @@ numbers c = now (c .args .list)
 -- the place is a vertex's
 place : (c : tie.Start) → c .args .i < length (vertices (numbers c))
 place c = omega (arith, length-vertices (numbers c))
+
+-- at an offset stands a corner number
+number : (k : tie.Start) (o : ℕ) → o < 3 →
+    (3 * k .args .i + o < length (numbers k)) × (isNumber (getD (numbers k) (3 * k .args .i + o) (pos 0)) ≡ true)
+number k o h = (at-number (numbers k) (k .args .i) o (place k) h, number-in (numbers k) (k .args .i) o (k .pre .0) (place k) h)
 
 -- each of the two is that of a corner number
 one : (c : tie.After-steps-at) → c .steps-at .result ≤ 1024
@@ -38,7 +45,7 @@ add-steps-at c = search needs
 
 steps-at-requires : tie.Need-steps-at-requires
 steps-at-requires k κs =
-    (at-number (numbers k) (k .args .i) (k .args .a) (place k) (k .pre .1 .0 .0), number-in (numbers k) (k .args .i) (k .args .a) (k .pre .0) (place k) (k .pre .1 .0 .0))
+    number k (k .args .a) (k .pre .1 .0 .0)
 
 mul-steps-at-2 : tie.Need-mul-steps-at-2
 mul-steps-at-2 c = search needs
@@ -49,7 +56,7 @@ add-steps-at-2 c = search needs
 steps-at-requires-2 : tie.Need-steps-at-requires-2
 steps-at-requires-2 c κs =
     let k = c .before in
-    (at-number (numbers k) (k .args .i) (k .args .b) (place k) (k .pre .1 .0 .1), number-in (numbers k) (k .args .i) (k .args .b) (k .pre .0) (place k) (k .pre .1 .0 .1))
+    number k (k .args .b) (k .pre .1 .0 .1)
 
 mul-result : tie.Need-mul-result
 mul-result c = omega (arith, one (c .before))

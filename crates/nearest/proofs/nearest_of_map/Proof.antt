@@ -1,6 +1,6 @@
 -- `nearest_of_map` meets its contract: the empty list, and then the least rank, found with small rooms or with large ones.
 use mathlib.Core.Path.{_≡_, sym, _∙_, ap, subst}
-use Prim.Native.Nat.{ℕ, _/_, _%_, _<_}
+use Prim.Native.Nat.{ℕ, _/_, _%_, _<_, _≤_}
 use native.Mathlib.Omega.{arith}
 use borrow.Author.Needs.{needs}
 use mathlib.Core.List.{List}
@@ -10,15 +10,14 @@ use mir.Syntax.{w16}
 use mir.Val.{SFits, toZ, ofZ}
 use mir.ValLaws.{toZ-ofZ}
 use Rattle.meaning.specs.Numbers.{Cell, cell, number}
-use Rattle.meaning.specs.Lists.{vertices}
-use Rattle.meaning.specs.Lists as Lists
+use Rattle.meaning.specs.Lists.{vertices, mostVertices}
 use Rattle.codes.specs.Lift.{lifted, lowered}
 use Rattle.codes.proofs.Laws.{lowered-lifted, lifted-fits}
 use Rattle.lists.proofs.Vertices.{length-vertices}
 use Rattle.nearest.specs.declared.Found.{Found}
 use Rattle.nearest.specs.declared.Found.the-variants.{At}
 use Rattle.nearest.specs.Answer.{Answered}
-use Rattle.nearest.specs.Search.{Ranked}
+use Rattle.nearest.specs.Ranks.{Ranked, Askable}
 use Rattle.nearest.proofs.Answers.{empty-refusal, valid-list, not-empty, answered}
 use Rattle.nearest.proofs.nearest_of_map.Statement.{statement}
 use Rattle.nearest.proofs.nearest_of_map.Tie as tie
@@ -36,9 +35,6 @@ numbers c = start c .args .list .now
 abbrev wish : tie.After-lift3 → Cell
 wish c = cell (start c .args .focus) (start c .args .first) (start c .args .second)
 
-ready : (c : tie.After-lift3) → Lists.Valid (vertices (numbers c)) × (0 < length (vertices (numbers c)))
-ready c = (valid-list (numbers c) (start c .pre), not-empty (numbers c) (start c .pre) (c .before .before .before .if1 .left))
-
 -- a number of the wish that is lifted, and back
 back : (z : ℤ) (n : ℕ) → SFits w16 z → n ≡ lifted (toZ w16 (ofZ w16 z)) → (lowered n ≡ z) × (n < 65536)
 back z n f e =
@@ -55,8 +51,18 @@ module _ (c : tie.After-lift3) where
   on-second : (lowered (c .lift3 .result) ≡ start c .args .second) × (c .lift3 .result < 65536)
   on-second = back (start c .args .second) _ (start c .fits .second) (c .lift3 .ensures)
 
-  wishes : (c .before .before .lift .result < 65536) × (c .before .lift2 .result < 65536) × (c .lift3 .result < 65536)
-  wishes = (on-focus .1, on-first .1, on-second .1)
+  ready : Askable (numbers c) (c .before .before .lift .result) (c .before .lift2 .result) (c .lift3 .result)
+  ready =
+      record {
+        valid = valid-list (numbers c) (start c .pre);
+        some = not-empty (numbers c) (start c .pre) (c .before .before .before .if1 .left);
+        wish = (on-focus .1, on-first .1, on-second .1);
+      }
+
+  -- the list has no more vertices than a list may have
+  few : length (vertices (numbers c)) ≤ 1024
+  unfolding mostVertices
+  few = ready .valid .few
 
   -- the answer of the least rank for the wish as it was lifted is the answer for the wish
   said : (r : ℕ) (f : Found) → f ≡ At (number (r / 1048576 % 1024)) (number (r / 1024 % 1024)) (number (r % 1024)) (r / 1073741824)
@@ -89,7 +95,7 @@ mul-if2 : tie.Need-mul-if2
 mul-if2 c = search needs
 
 rank-of-few-requires : tie.Need-rank-of-few-requires
-rank-of-few-requires c κs = (ready (c .before), (wishes (c .before), omega (arith, length-vertices (numbers (c .before)), c .if2 .taken)))
+rank-of-few-requires c κs = (ready (c .before), omega (arith, length-vertices (numbers (c .before)), c .if2 .taken))
 
 answer-requires : tie.Need-answer-requires
 answer-requires c κs = search needs
@@ -98,7 +104,7 @@ returns-2 : tie.Need-returns-2
 returns-2 c = said (c .before .before .before) (c .before .rank-of-few .result) _ (c .answer .ensures) (c .before .rank-of-few .ensures .0)
 
 rank-of-many-requires : tie.Need-rank-of-many-requires
-rank-of-many-requires c κs = (ready (c .before), wishes (c .before))
+rank-of-many-requires c κs = (ready (c .before), few (c .before))
 
 answer-requires-2 : tie.Need-answer-requires-2
 answer-requires-2 c κs = search needs

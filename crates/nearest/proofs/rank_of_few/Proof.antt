@@ -23,7 +23,10 @@ slice-aggregate-rank-with-room-6 : tie.Need-slice-aggregate-rank-with-room-6
 slice-aggregate-rank-with-room-6 c = search needs
 
 rank-with-room-requires : tie.Need-rank-with-room-requires
-rank-with-room-requires c κs = let s = c .before .before .before .before .before .before in (s .pre .0, (s .pre .1 .0, (s .pre .1 .1, s .pre .1 .1, s .pre .1 .1, s .pre .1 .1, s .pre .1 .1, omega (arith, s .pre .1 .1))))
+rank-with-room-requires c κs =
+    let s = c .before .before .before .before .before .before in
+    let h = s .pre .1 in
+    (s .pre .0, record { keys-fit = h; below-fits = h; above-fits = h; line-fits = h; spare-fits = h; other-fits = omega (arith, h) })
 
 returns : tie.Need-returns
 returns c = search needs

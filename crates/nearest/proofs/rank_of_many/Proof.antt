@@ -1,15 +1,8 @@
 -- `rank_of_many` meets its contract: the rooms are long enough.
 use native.Mathlib.Omega.{arith}
-use Prim.Native.Nat.{_≤_}
-use lib.ListN.{length}
-use Rattle.meaning.specs.Lists.{vertices, mostVertices}
 use borrow.Author.Needs.{needs}
 use Rattle.nearest.proofs.rank_of_many.Statement.{statement}
 use Rattle.nearest.proofs.rank_of_many.Tie as tie
-
-few : (s : tie.Start) → length (vertices (s .args .list .now)) ≤ 1024
-unfolding mostVertices
-few s = s .pre .0 .0 .few
 
 slice-aggregate-rank-with-room : tie.Need-slice-aggregate-rank-with-room
 slice-aggregate-rank-with-room c = search needs
@@ -30,7 +23,10 @@ slice-aggregate-rank-with-room-6 : tie.Need-slice-aggregate-rank-with-room-6
 slice-aggregate-rank-with-room-6 c = search needs
 
 rank-with-room-requires : tie.Need-rank-with-room-requires
-rank-with-room-requires c κs = let s = c .before .before .before .before .before .before in (s .pre .0, (s .pre .1, (few s, few s, few s, few s, few s, omega (arith, few s))))
+rank-with-room-requires c κs =
+    let s = c .before .before .before .before .before .before in
+    let h = s .pre .1 in
+    (s .pre .0, record { keys-fit = h; below-fits = h; above-fits = h; line-fits = h; spare-fits = h; other-fits = omega (arith, h) })
 
 returns : tie.Need-returns
 returns c = search needs

@@ -1,12 +1,14 @@
 -- `answer_wishes` meets its contract: the refusal of the wishes' text, or the answers to them.
-use mathlib.Core.Path.{_≡_, sym, _∙_, ap, subst}
-use Prim.Native.Nat.{_*_, _/_, _≤_}
+use mathlib.Core.Path.{sym, _∙_, ap, subst}
+use mathlib.Core.List.{List}
+use Prim.Native.Nat.{ℕ, _*_, _/_, _≤_}
 use native.Mathlib.Omega.{arith}
 use borrow.Author.Needs.{needs}
 use denote.Ref.{now}
+use lib.IntN.{ℤ}
 use lib.ListN.{length, take}
 use lib.Seq.{length-take-le}
-use Rattle.text.specs.Inner.{meant, AtMost}
+use Rattle.reading.specs.Read.{meant, AtMost}
 use Rattle.text.proofs.Outcomes.{wishes-refused, wishes-answered}
 use Rattle.text.proofs.answer_wishes.Statement.{statement}
 use Rattle.text.proofs.answer_wishes.Tie as tie
@@ -26,34 +28,38 @@ refuse-requires c κs = search needs
 enum-known-count : tie.Need-enum-known-count
 enum-known-count c = search needs
 
--- the wishes are few
-few : (c : tie.After-known-told2) → c .before .count .given .0 .0 ≤ 256
+-- what read_wishes has left: the list of numbers, of which the first stand for wishes
+abbrev read : tie.After-known-told2 → List ℤ
+read c = c .before .before .before .before .read-wishes .last .1 .1 .0
+
+abbrev count : tie.After-known-told2 → ℕ
+count c = c .before .count .given .0 .0
+
+-- the wishes are few, and their numbers are in the list
+few : (c : tie.After-known-told2) → count c ≤ 256
 few c = subst (AtMost 256) (c .before .count .given .1) (c .before .before .before .before .read-wishes .ensures .1)
 
--- the list of wishes has the room that it was made with
-room : (c : tie.After-read-wishes) → length (c .read-wishes .last .1 .1 .0) ≡ 768
-room c = c .read-wishes .kept .1 .1 .0
+fits : (c : tie.After-known-told2) → 3 * count c ≤ length (read c)
+fits c = omega (arith, few c, c .before .before .before .before .read-wishes .kept .1 .1 .0)
 
--- the answers fit
-fits : (c : tie.After-known-told2) → 17 * (length (take (3 * c .before .count .given .0 .0) (c .before .before .before .before .read-wishes .last .1 .1 .0)) / 3) ≤ length (now (c .before .before .before .before .before .before .before .before .args .out))
-fits c =
-    let at-read-wishes = c .before .before .before .before in
-    let start = at-read-wishes .before .before .before .before in
-    let long = length-take-le (3 * c .before .count .given .0 .0) (at-read-wishes .read-wishes .last .1 .1 .0) (omega (arith, few c, room (at-read-wishes)))
-    in
-    omega (arith, few c, start .pre .1 .1)
+-- the answers have room
+room : (c : tie.After-known-told2) → let start = c .before .before .before .before .before .before .before .before in
+    17 * (length (take (3 * count c) (read c)) / 3) ≤ length (now (start .args .out))
+room c =
+    let start = c .before .before .before .before .before .before .before .before in
+    omega (arith, few c, length-take-le (3 * count c) (read c) (fits c), start .pre .1 .1)
 
 mul-end : tie.Need-mul-end
 mul-end c = omega (arith, few c)
 
 array-share-prefix-wishes : tie.Need-array-share-prefix-wishes
-array-share-prefix-wishes c = omega (arith, few c, room (c .before .before .before .before))
+array-share-prefix-wishes c = fits c
 
 slice-aggregate-answer-all : tie.Need-slice-aggregate-answer-all
-slice-aggregate-answer-all c = sym (length-take-le _ _ (omega (arith, few (c .before), room (c .before .before .before .before .before))))
+slice-aggregate-answer-all c = sym (length-take-le _ _ (fits (c .before)))
 
 answer-all-requires : tie.Need-answer-all-requires
-answer-all-requires c κs = (c .before .before .before .before .before .before .before .before .before .before .pre .1 .0, fits (c .before .before))
+answer-all-requires c κs = (c .before .before .before .before .before .before .before .before .before .before .pre .1 .0, room (c .before .before))
 
 same-length : tie.Need-same-length
 same-length c = search needs
@@ -78,7 +84,7 @@ returns-2 c =
     let at-count = earlier .before in
     let at-read-wishes = at-count .before .before .before in
     let e = ap (λ r. meant r (at-read-wishes .read-wishes .last .1 .1 .0)) (sym (at-count .count .given .1)) ∙ at-read-wishes .read-wishes .ensures .0 in
-    wishes-answered _ e (at-answer-all .answer-all .ensures .0) (fits earlier) (at-answer-all .answer-all .ensures .1)
+    wishes-answered _ e (at-answer-all .answer-all .ensures .0) (room earlier) (at-answer-all .answer-all .ensures .1)
 
 pub answer-wishes-spec : {M : Type 1} → statement M
 answer-wishes-spec =

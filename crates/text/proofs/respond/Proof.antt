@@ -1,14 +1,16 @@
 -- `respond` meets its contract: too long; the refusal of the map's text; or what follows it.
 use mathlib.Core.Path.{_≡_, sym, _∙_, ap, subst}
-use Prim.Native.Nat.{_*_, _≤_}
+use mathlib.Core.List.{List}
+use Prim.Native.Nat.{ℕ, _*_, _≤_}
 use native.Mathlib.Omega.{arith}
 use borrow.Author.Needs.{needs}
 use denote.Ref.{now}
+use lib.IntN.{ℤ}
 use lib.ListN.{length, take}
 use lib.Seq.{length-take-le}
-use Rattle.text.specs.Inner.{meant, AtMost}
-use Rattle.text.specs.Reading.{whole, mapText}
-use Rattle.text.proofs.Places.{map-read}
+use Rattle.reading.specs.Read.{meant, AtMost}
+use Rattle.reading.specs.Reading.{whole, mapText}
+use Rattle.reading.proofs.Places.{map-read}
 use Rattle.text.proofs.Outcomes.{bytes-refused, map-refused, map-answered}
 use Rattle.text.proofs.respond.Statement.{statement}
 use Rattle.text.proofs.respond.Tie as tie
@@ -34,23 +36,24 @@ refuse-requires-2 c κs = search needs
 enum-known-n : tie.Need-enum-known-n
 enum-known-n c = search needs
 
--- the vertices are few
-few : (c : tie.After-known-told2) → c .before .n .given .0 .0 ≤ 1024
+-- what read_map has left: the list of numbers, of which the first stand for vertices
+abbrev list : tie.After-known-told2 → List ℤ
+list c = c .before .before .before .before .read-map .last .1 .0
+
+abbrev count : tie.After-known-told2 → ℕ
+count c = c .before .n .given .0 .0
+
+-- the vertices are few, and their numbers are in the list
+few : (c : tie.After-known-told2) → count c ≤ 1024
 few c = subst (AtMost 1024) (c .before .n .given .1) (c .before .before .before .before .read-map .ensures .1)
 
--- the list has the room that it was made with
-room : (c : tie.After-read-map) → length (c .read-map .last .1 .0) ≡ 3072
-room c = c .read-map .kept .1 .0
-
--- the vertices are in the list
-fits : (c : tie.After-known-told2) → 3 * c .before .n .given .0 .0 ≤ length (c .before .before .before .before .read-map .last .1 .0)
-fits c = omega (arith, few c, room (c .before .before .before .before))
+fits : (c : tie.After-known-told2) → 3 * count c ≤ length (list c)
+fits c = omega (arith, few c, c .before .before .before .before .read-map .kept .1 .0)
 
 -- the map is read whole
-read : (c : tie.After-known-told2) → whole (take (3 * c .before .n .given .0 .0) (c .before .before .before .before .read-map .last .1 .0)) ≡ mapText (now (c .before .before .before .before .before .before .before .before .args .input))
-read c =
-    let at-read-map = c .before .before .before .before in
-    ap (λ r. meant r (at-read-map .read-map .last .1 .0)) (sym (c .before .n .given .1)) ∙ at-read-map .read-map .ensures .0
+read : (c : tie.After-known-told2) → let start = c .before .before .before .before .before .before .before .before in
+    whole (take (3 * count c) (list c)) ≡ mapText (now (start .args .input))
+read c = ap (λ r. meant r (list c)) (sym (c .before .n .given .1)) ∙ c .before .before .before .before .read-map .ensures .0
 
 mul-end : tie.Need-mul-end
 mul-end c = omega (arith, few c)

@@ -1,5 +1,5 @@
 -- `travelmap::travelmap_box` meets its contract: the answer of making a box is packed.
-use Rattle.travelmap.proofs.Packing.{box-packed}
+use Rattle.travelmap.proofs.Passing.{box-packed}
 use borrow.Author.Needs.{needs}
 use Rattle.travelmap.proofs.travelmap_box.Statement.{statement}
 use Rattle.travelmap.proofs.travelmap_box.Tie as tie

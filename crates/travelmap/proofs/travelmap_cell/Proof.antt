@@ -3,8 +3,8 @@ use mathlib.Core.Path.{ap, _∙_}
 use denote.Ref.{now}
 use Rattle.meaning.specs.Numbers.{cell}
 use Rattle.asks.specs.Asks.{cellAnswer}
-use Rattle.travelmap.specs.Packed.{packedCell}
-use Rattle.travelmap.proofs.Packing.{cell-place, back-three}
+use Rattle.packing.specs.Packed.{packedCell}
+use Rattle.travelmap.proofs.Passing.{cell-place, back-three}
 use borrow.Author.Needs.{needs}
 use Rattle.travelmap.proofs.travelmap_cell.Statement.{statement}
 use Rattle.travelmap.proofs.travelmap_cell.Tie as tie

@@ -4,8 +4,8 @@ use Prim.Native.Nat.{_≤_}
 use denote.Ref.{now}
 use Rattle.meaning.specs.Lists.{mostVertices}
 use Rattle.meaning.specs.Verdicts.{refusalPlace}
-use Rattle.travelmap.specs.Packed.{packedVerdict}
-use Rattle.travelmap.proofs.Packing.{place-few}
+use Rattle.packing.specs.Packed.{packedVerdict}
+use Rattle.travelmap.proofs.Passing.{place-few}
 use borrow.Author.Needs.{needs}
 use Rattle.travelmap.proofs.travelmap_check.Statement.{statement}
 use Rattle.travelmap.proofs.travelmap_check.Tie as tie

@@ -1,8 +1,8 @@
 -- `travelmap::travelmap_join` meets its contract: the answer of the join is packed, and the contents at exit are the join's.
 use mathlib.Core.Path.{ap, _∙_}
 use Rattle.joins.specs.Join.{joinValues}
-use Rattle.travelmap.specs.Packed.{packedValues}
-use Rattle.travelmap.proofs.Packing.{join-few}
+use Rattle.packing.specs.Packed.{packedValues}
+use Rattle.travelmap.proofs.Passing.{join-few}
 use borrow.Author.Needs.{needs}
 use Rattle.travelmap.proofs.travelmap_join.Statement.{statement}
 use Rattle.travelmap.proofs.travelmap_join.Tie as tie

@@ -1,7 +1,7 @@
 -- `travelmap::travelmap_nearest` meets its contract: the answer of nearest is packed.
 use Rattle.meaning.specs.Numbers.{cell}
 use Rattle.nearest.specs.Answer.{Answered}
-use Rattle.travelmap.proofs.Packing.{wish-back}
+use Rattle.travelmap.proofs.Passing.{wish-back}
 use borrow.Author.Needs.{needs}
 use Rattle.travelmap.proofs.travelmap_nearest.Statement.{statement}
 use Rattle.travelmap.proofs.travelmap_nearest.Tie as tie

@@ -1,7 +1,7 @@
 -- `travelmap::travelmap_nearest_distance` meets its contract: the answer of nearest is packed.
 use Rattle.meaning.specs.Numbers.{cell}
 use Rattle.nearest.specs.Answer.{Answered}
-use Rattle.travelmap.proofs.Packing.{wish-back, found-few}
+use Rattle.travelmap.proofs.Passing.{wish-back, found-few}
 use borrow.Author.Needs.{needs}
 use Rattle.travelmap.proofs.travelmap_nearest_distance.Statement.{statement}
 use Rattle.travelmap.proofs.travelmap_nearest_distance.Tie as tie

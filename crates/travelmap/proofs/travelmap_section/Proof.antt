@@ -1,5 +1,5 @@
 -- `travelmap::travelmap_section` meets its contract: the answer of the section is packed, and the contents at exit are the section's.
-use Rattle.travelmap.proofs.Packing.{code-back, section-few}
+use Rattle.travelmap.proofs.Passing.{code-back, section-few}
 use borrow.Author.Needs.{needs}
 use Rattle.travelmap.proofs.travelmap_section.Statement.{statement}
 use Rattle.travelmap.proofs.travelmap_section.Tie as tie

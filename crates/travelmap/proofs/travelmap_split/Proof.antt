@@ -1,5 +1,5 @@
 -- `travelmap::travelmap_split` meets its contract: the answer of the split is packed, and the contents of both results at exit are the split's.
-use Rattle.travelmap.proofs.Packing.{at-back, split-few}
+use Rattle.travelmap.proofs.Passing.{at-back, split-few}
 use borrow.Author.Needs.{needs}
 use Rattle.travelmap.proofs.travelmap_split.Statement.{statement}
 use Rattle.travelmap.proofs.travelmap_split.Tie as tie

@@ -7,10 +7,10 @@ use Rattle.bench.proofs.maps.put_slabs.Statement.{statement}
 use Rattle.bench.proofs.maps.put_slabs.Tie as tie
 
 abbrev Inv-loop : tie.InvT-loop
-Inv-loop n list₀ i₀ list i = (i ≤ 2 * n) × (length list ≡ length list₀)
+Inv-loop n crosswise list₀ i₀ list i = (i ≤ 2 * n) × (length list ≡ length list₀)
 
 abbrev μ-loop : tie.MeasureT-loop
-μ-loop n list₀ i₀ list i = 2 * n - i
+μ-loop n crosswise list₀ i₀ list i = 2 * n - i
 
 loop-holds : tie.Need-loop-holds Inv-loop μ-loop
 loop-holds c = search needs
@@ -18,29 +18,8 @@ loop-holds c = search needs
 mul-loop : tie.Need-mul-loop Inv-loop μ-loop
 mul-loop c = search needs
 
-mul-put-two : tie.Need-mul-put-two Inv-loop μ-loop
-mul-put-two c = search needs
-
-mul-put-two-2 : tie.Need-mul-put-two-2 Inv-loop μ-loop
-mul-put-two-2 c = search needs
-
-put-two-requires : tie.Need-put-two-requires Inv-loop μ-loop
-put-two-requires c κs = search needs
-
-mul-put-two-3 : tie.Need-mul-put-two-3 Inv-loop μ-loop
-mul-put-two-3 c = search needs
-
-mul-put-two-4 : tie.Need-mul-put-two-4 Inv-loop μ-loop
-mul-put-two-4 c = search needs
-
-mul-put-two-5 : tie.Need-mul-put-two-5 Inv-loop μ-loop
-mul-put-two-5 c = search needs
-
-add-put-two : tie.Need-add-put-two Inv-loop μ-loop
-add-put-two c = search needs
-
-put-two-requires-2 : tie.Need-put-two-requires-2 Inv-loop μ-loop
-put-two-requires-2 c κs = search needs
+put-end-requires : tie.Need-put-end-requires Inv-loop μ-loop
+put-end-requires c κs = search needs
 
 add-i : tie.Need-add-i Inv-loop μ-loop
 add-i c = search needs
@@ -65,14 +44,7 @@ put-slabs-spec =
     μ-loop
     loop-holds
     mul-loop
-    mul-put-two
-    mul-put-two-2
-    put-two-requires
-    mul-put-two-3
-    mul-put-two-4
-    mul-put-two-5
-    add-put-two
-    put-two-requires-2
+    put-end-requires
     add-i
     loop-less
     loop-again

@@ -1,0 +1,3 @@
+-- Laws of the lines that are written.
+pub mod Lines
+pub mod Filling

@@ -1,0 +1,2 @@
+-- What must be believed: the lines that the program writes. Their laws are under proofs/.
+pub mod Answers

@@ -1,0 +1,3 @@
+-- What must be believed: the definitions that this crate's promises cite. Their laws are under proofs/.
+pub mod Odd
+pub mod Chains

@@ -1,0 +1,3 @@
+-- What the sweep over planes promises (Level), and what one plane asks and leaves (Planes).
+pub mod Level
+pub mod Planes

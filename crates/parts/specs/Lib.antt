@@ -1,0 +1,2 @@
+-- Inner definitions: keys along an axis.
+pub mod Axes

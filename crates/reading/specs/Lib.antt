@@ -1,0 +1,3 @@
+-- What must be believed: the text form of a map and of wishes. Its laws are under proofs/.
+pub mod Reading
+pub mod Read

@@ -1,0 +1,2 @@
+-- Rows of bits.
+pub mod Rows

@@ -1,0 +1,2 @@
+-- What the parts of the search lend each other.
+pub mod Search

@@ -1,0 +1,3 @@
+-- Laws of a turn (Pieces), and of lists of keys (Lists).
+pub mod Lists
+pub mod Pieces

@@ -1,0 +1,2 @@
+-- What the promises of a turn cite.
+pub mod Turn
