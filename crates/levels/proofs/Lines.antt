@@ -32,6 +32,7 @@ use Rattle.turn.proofs.Lists.{all-take, all-drop, all-more, all-image, all-both
 use Rattle.levels.specs.Level.{Number, lineFits, lineOk}
 use Rattle.rows.specs.Rows.{holdsBy, bit, bitAt, TookLine, Put, PutLine, change}
 use Rattle.levels.specs.Planes.{Spanned, Planes, Rows, Changed}
+use Rattle.rows.proofs.Operations.{change-none, change-quiet}
 use Rattle.rows.proofs.Bits.{bit-zero}
 use Rattle.rows.proofs.Ones.{put-none, put-then}
 
@@ -81,15 +82,9 @@ abbrev pub seen : ℕ → List ℕ → ℕ → ℕ → ℕ → Bool
 seen off l i y z = sum (λ k. fits y z (k - off)) (take i l)
 
 -- where neither membership turns, nothing changes
-change-none : (op : ℕ) (s t : Bool) → change op s t false false ≡ false
-change-none op s t = ap (_⊕ holdsBy op s t) (ap₂ (holdsBy op) (⊕-false s) (⊕-false t)) ∙ ⊕-self (holdsBy op s t)
-
 change-of : (op : ℕ) {s s′ t t′ u u′ v v′ : Bool} → s ≡ s′ → t ≡ t′ → u ≡ u′ → v ≡ v′ → change op s t u v ≡ change op s′ t′ u′ v′
 change-of op {s} {s′} {t} {t′} {u} {u′} {v} {v′} a b c d =
     ap₂ (λ x y. change op x y u v) a b ∙ ap₂ (λ x y. change op s′ t′ x y) c d
-
-change-quiet : (op : ℕ) (s t : Bool) {u v : Bool} → u ≡ false → v ≡ false → change op s t u v ≡ false
-change-quiet op s t c d = ap₂ (λ x y. change op s t x y) c d ∙ change-none op s t
 
 -- ---- one list
 

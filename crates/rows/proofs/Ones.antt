@@ -284,10 +284,6 @@ sum-above e x l h =
     sum-map (λ k. leb k x) (λ k. e + k) l ∙ sum-ext (λ k. leb (e + k) x) (λ k. false) l (λ k. lt-leb (e + k) x (omega arith)) ∙ sum-false l
 
 -- the change of an operation on a word, from the operation on what there was and on what there is
-word-change : (op x y u v r s : ℕ) → ((k : ℕ) → bit r k ≡ holdsBy op (bit (bitXor x u) k) (bit (bitXor y v) k))
-    → ((k : ℕ) → bit s k ≡ holdsBy op (bit x k) (bit y k)) → (k : ℕ) → bit (bitXor r s) k ≡ change op (bit x k) (bit y k) (bit u k) (bit v k)
-word-change op x y u v r s f g k = bit-xor r s k ∙ ap₂ _⊕_ (f k ∙ ap₂ (holdsBy op) (bit-xor x u k) (bit-xor y v k)) (g k)
-
 pub record LineTo (op : ℕ) (ra rb ca cb last₀ : List ℕ) (start : ℕ) (out₀ : List ℕ) (n : ℕ) (last out : List ℕ) (put carry w : ℕ) : Type 0 where
   pub within : w ≤ length last₀
   pub long : length last ≡ length last₀
@@ -422,13 +418,9 @@ module _ {op : ℕ} {ra rb ca cb last₀ : List ℕ} {start : ℕ} {out₀ : Lis
               put-out = subst (λ (m : List ℕ). Put m out₀ n out′ r) based (put-then (l .put-out) (p .put));
             }
 
-    -- the same, from the operation on what there is and on what there was
-    pub line-word : {out′ : List ℕ} {m : ℕ} (r s : ℕ) → w < length last
-        → ((k : ℕ) → bit r k ≡ holdsBy op (bit (bitXor (getD ra w 0) (getD ca w 0)) k) (bit (bitXor (getD rb w 0) (getD cb w 0)) k))
-        → ((k : ℕ) → bit s k ≡ holdsBy op (bit (getD ra w 0) k) (bit (getD rb w 0) k))
-        → r < 2 ^ 64 → s < 2 ^ 64 → getD last w 0 < 2 ^ 64
-        → PutOnes (edges (bitXor (bitXor r s) (getD last w 0)) carry) (start + 64 * w) out put out′ m
-        → LineTo op ra rb ca cb last₀ start out₀ n (set last w (bitXor r s)) out′ m (bitXor (bitXor r s) (getD last w 0) / 2 ^ 63) (w + 1)
-    line-word r s room f g hr hs hl p =
-        line-more (bitXor r s) room (word-change op (getD ra w 0) (getD rb w 0) (getD ca w 0) (getD cb w 0) r s f g) p
-        (xor-lt 64 (bitXor r s) (getD last w 0) (xor-lt 64 r s hr hs) hl)
+    -- the same, of a word
+    pub line-word : {out′ : List ℕ} {m : ℕ} (now : ℕ) → w < length last
+        → ((k : ℕ) → bit now k ≡ change op (bit (getD ra w 0) k) (bit (getD rb w 0) k) (bit (getD ca w 0) k) (bit (getD cb w 0) k))
+        → now < 2 ^ 64 → getD last w 0 < 2 ^ 64 → PutOnes (edges (bitXor now (getD last w 0)) carry) (start + 64 * w) out put out′ m
+        → LineTo op ra rb ca cb last₀ start out₀ n (set last w now) out′ m (bitXor now (getD last w 0) / 2 ^ 63) (w + 1)
+    line-word now room f h hl p = line-more now room f p (xor-lt 64 now (getD last w 0) h hl)

@@ -1,16 +1,17 @@
 -- Operations by number, of two memberships.
 --   holds-union, holds-overlap, holds-without, holds-exclusive    what holds by each number
 --   holds-out                                                     nothing holds of a cell that is in neither
+--   change-none, change-quiet                                     nothing changes where nothing turns
 -- Assumes nothing.
-use mathlib.Core.Path.{_≡_, refl, sym, _∙_, ap}
+use mathlib.Core.Path.{_≡_, refl, sym, _∙_, ap, ap₂}
 use mathlib.Core.Bool.{Bool, true, false, not, _&&_, _||_, cond}
 use mathlib.Core.Option.{none, some}
 use Prim.Native.Nat.{ℕ}
 use lib.Dec.{eqb}
 use borrow.Author.Tests.{ne-eqb}
 use Rattle.meaning.specs.Operations.{Operation, union, overlap, without, exclusive, operation, holds}
-use Rattle.meaning.proofs.Parity.{_⊕_}
-use Rattle.rows.specs.Rows.{orExclusive, holdsBy}
+use Rattle.meaning.proofs.Parity.{_⊕_, ⊕-false, ⊕-self}
+use Rattle.rows.specs.Rows.{orExclusive, holdsBy, change}
 
 xor-form : (s t : Bool) → (s ⊕ t) ≡ (s && not t || not s && t)
 xor-form true true = refl
@@ -46,3 +47,10 @@ holds-out op = go (orExclusive (operation op))
     go overlap = refl
     go without = refl
     go exclusive = refl
+
+-- where nothing turns, nothing changes
+pub change-none : (op : ℕ) (s t : Bool) → change op s t false false ≡ false
+change-none op s t = ap (_⊕ holdsBy op s t) (ap₂ (holdsBy op) (⊕-false s) (⊕-false t)) ∙ ⊕-self (holdsBy op s t)
+
+pub change-quiet : (op : ℕ) (s t : Bool) {u v : Bool} → u ≡ false → v ≡ false → change op s t u v ≡ false
+change-quiet op s t c d = ap₂ (λ x y. change op s t x y) c d ∙ change-none op s t

@@ -6,7 +6,7 @@ ghost use Prim.Native.Nat.{ℕ, _+_, _*_, _≤_, _<_, _^_};
 ghost use lib.ListN.{length, drop};
 ghost use Rattle.meaning.specs.Counting.{All};
 ghost use Rattle.rising.specs.Merged.{From};
-ghost use Rattle.rows.specs.Rows.{holdsBy, bit, Flipped, TookLine, PutOnes, PutLine};
+ghost use Rattle.rows.specs.Rows.{holdsBy, change, bit, Flipped, TookLine, PutOnes, PutLine};
 
 // The numbers of the operations; any other is exclusive or.
 const UNION: u32 = 1;
@@ -36,6 +36,18 @@ fn word(op: u32, x: u64, y: u64) -> u64
         return x ^ (x & y);
     }
     x ^ y
+}
+
+// What changes of 64 cells by the operation where u turns the memberships x, and v the memberships y.
+fn changed(op: u32, x: u64, y: u64, u: u64, v: u64) -> u64
+    ensures { λ r. ⌜ ((k : ℕ) → bit r k ≡ change op (bit x k) (bit y k) (bit u k) (bit v k)) ⌝ }
+{
+    if u == 0 {
+        if v == 0 {
+            return 0;
+        }
+    }
+    word(op, x ^ u, y ^ v) ^ word(op, x, y)
 }
 
 // Turns every bit of a row from a place on.
@@ -110,9 +122,7 @@ pub fn put_line(
     let mut carry: u64 = 0;
     let mut w = 0;
     while w < last.len() {
-        let x = ra[w];
-        let y = rb[w];
-        let now = word(op, x ^ ca[w], y ^ cb[w]) ^ word(op, x, y);
+        let now = changed(op, ra[w], rb[w], ca[w], cb[w]);
         let turned = now ^ last[w];
         last[w] = now;
         let ones = turned ^ (turned << 1) ^ carry;

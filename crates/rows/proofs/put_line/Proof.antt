@@ -1,4 +1,4 @@
--- `rows::put_line` meets its contract.
+-- `rows::put_line` meets its contract: each word of the line puts out its ends.
 use borrow.Author.Needs.{needs}
 use native.Mathlib.Omega.{arith}
 use Prim.Native.Nat.{_-_}
@@ -16,35 +16,32 @@ abbrev μ-loop : tie.MeasureT-loop
 loop-holds : tie.Need-loop-holds Inv-loop μ-loop
 loop-holds c = line-begin
 
-mul-x : tie.Need-mul-x Inv-loop μ-loop
-mul-x c = search needs
+mul-changed : tie.Need-mul-changed Inv-loop μ-loop
+mul-changed c = search needs
 
-shared-slice-read-x : tie.Need-shared-slice-read-x Inv-loop μ-loop
-shared-slice-read-x c = search needs
+shared-slice-read-changed : tie.Need-shared-slice-read-changed Inv-loop μ-loop
+shared-slice-read-changed c = search needs
 
-mul-y : tie.Need-mul-y Inv-loop μ-loop
-mul-y c = search needs
+mul-changed-2 : tie.Need-mul-changed-2 Inv-loop μ-loop
+mul-changed-2 c = search needs
 
-shared-slice-read-y : tie.Need-shared-slice-read-y Inv-loop μ-loop
-shared-slice-read-y c = search needs
+shared-slice-read-changed-2 : tie.Need-shared-slice-read-changed-2 Inv-loop μ-loop
+shared-slice-read-changed-2 c = search needs
 
-mul-word : tie.Need-mul-word Inv-loop μ-loop
-mul-word c = search needs
+mul-changed-3 : tie.Need-mul-changed-3 Inv-loop μ-loop
+mul-changed-3 c = search needs
 
-shared-slice-read-word : tie.Need-shared-slice-read-word Inv-loop μ-loop
-shared-slice-read-word c = search needs
+shared-slice-read-changed-3 : tie.Need-shared-slice-read-changed-3 Inv-loop μ-loop
+shared-slice-read-changed-3 c = search needs
 
-mul-word-2 : tie.Need-mul-word-2 Inv-loop μ-loop
-mul-word-2 c = search needs
+mul-changed-4 : tie.Need-mul-changed-4 Inv-loop μ-loop
+mul-changed-4 c = search needs
 
-shared-slice-read-word-2 : tie.Need-shared-slice-read-word-2 Inv-loop μ-loop
-shared-slice-read-word-2 c = search needs
+shared-slice-read-changed-4 : tie.Need-shared-slice-read-changed-4 Inv-loop μ-loop
+shared-slice-read-changed-4 c = search needs
 
-word-requires : tie.Need-word-requires Inv-loop μ-loop
-word-requires c κs = search needs
-
-word-requires-2 : tie.Need-word-requires-2 Inv-loop μ-loop
-word-requires-2 c κs = search needs
+changed-requires : tie.Need-changed-requires Inv-loop μ-loop
+changed-requires c κs = search needs
 
 mul-turned : tie.Need-mul-turned Inv-loop μ-loop
 mul-turned c = search needs
@@ -68,7 +65,7 @@ add-put-ones : tie.Need-add-put-ones Inv-loop μ-loop
 add-put-ones c = search needs
 
 put-ones-requires : tie.Need-put-ones-requires Inv-loop μ-loop
-put-ones-requires c κs = (search needs, omega (arith, line-few (c .before .before .before .before .before .before .before .before .before .loop .inv)))
+put-ones-requires c κs = (search needs, omega (arith, line-few (c .before .before .before .before .before .before .before .before .loop .inv)))
 
 cast-carry : tie.Need-cast-carry Inv-loop μ-loop
 cast-carry c = search needs
@@ -86,9 +83,9 @@ loop-again : tie.Need-loop-again Inv-loop μ-loop
 loop-again c =
     let at-ones = c .before .before in
     let at-last = at-ones .before .before in
-    let at-word = at-last .before .before in
-    let at-loop = at-word .before .before .before .before .before .before in
-    line-word (at-loop .loop .inv) _ _ (omega arith) (at-word .word .ensures) (at-last .before .word2 .ensures) (omega arith) (omega arith)
+    let at-changed = at-last .before in
+    let at-loop = at-changed .before .before .before .before .before .before in
+    line-word (at-loop .loop .inv) _ (omega arith) (at-changed .changed .ensures) (omega arith)
     (omega (arith, at-last .slice-known3 .given (at-loop .loop .w))) (at-ones .put-ones .ensures)
 
 same-length : tie.Need-same-length Inv-loop μ-loop
@@ -107,16 +104,15 @@ put-line-spec =
     Inv-loop
     μ-loop
     loop-holds
-    mul-x
-    shared-slice-read-x
-    mul-y
-    shared-slice-read-y
-    mul-word
-    shared-slice-read-word
-    mul-word-2
-    shared-slice-read-word-2
-    word-requires
-    word-requires-2
+    mul-changed
+    shared-slice-read-changed
+    mul-changed-2
+    shared-slice-read-changed-2
+    mul-changed-3
+    shared-slice-read-changed-3
+    mul-changed-4
+    shared-slice-read-changed-4
+    changed-requires
     mul-turned
     slice-read-turned
     mul-last
