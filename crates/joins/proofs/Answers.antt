@@ -17,7 +17,7 @@ use borrow.Author.Tests.{le-leb, lt-leb, leb-true, leb-false, eqb-true, eqb-fals
 use Rattle.meaning.specs.Numbers.{Corner}
 use Rattle.meaning.specs.Counting.{All}
 use Rattle.meaning.specs.Lists.{vertices, numbers, mostVertices}
-use Rattle.meaning.specs.Operations.{Operation, union, overlap, without, exclusive, operation}
+use Rattle.meaning.specs.Operations.{Operation, union, overlap, without, exclusive, operation, joinedList}
 use Rattle.meaning.proofs.Integers.{leb-by}
 use Rattle.meaning.specs.Verdicts.{verdict, passes}
 use Rattle.meaning.specs.declared.Verdict.{Verdict}
@@ -27,7 +27,7 @@ use Rattle.keys.proofs.Corners.{keys-ok}
 use Rattle.rising.specs.Merged.{merged, lessBase}
 use Rattle.rising.proofs.Sums.{all-merged, length-merged}
 use Rattle.turn.proofs.Lists.{less-zero, front-of}
-use Rattle.sweep.specs.Room.{joinedList, Filled, InRoom}
+use Rattle.sweep.specs.Room.{Filled, InRoom}
 use Rattle.sweep.proofs.Whole.{Read, part, merged-result, read-room}
 use Rattle.joins.specs.Join.{fitsIn, madeAnswer, madeContents, JoinMade, answerBy, contentsBy}
 use Rattle.joins.specs.declared.Joining.{Joining}

@@ -1,5 +1,4 @@
 -- The promise of a join (document 01, "What can be asked", "Why a call comes back"). It names no engine.
---   joinedList             the one list of the cells of which the operation holds (of `sweep/specs/Room.antt`)
 --   fitsIn                 a list that has no more vertices than a list may have, and no more numbers than the slice
 --   joinAnswer             8; then 1 to 5 of the first list, then of the second; then 6 or done, with the count of vertices
 --   joinContents           what the lent result holds at exit: the list at its front where the call is done, else what it held
@@ -13,13 +12,11 @@ use Prim.Native.Nat.{ℕ, _*_}
 use lib.Dec.{leb}
 use lib.IntN.{ℤ}
 use lib.ListN.{length, drop}
-use Rattle.meaning.specs.Numbers.{Cell, Corner}
-use Rattle.meaning.specs.Lists.{vertices, numbers, permitted, mostVertices}
-use Rattle.meaning.specs.OneList.{oneList}
-use Rattle.meaning.specs.Operations.{Operation, operation, join}
+use Rattle.meaning.specs.Numbers.{Corner}
+use Rattle.meaning.specs.Lists.{numbers, mostVertices}
+use Rattle.meaning.specs.Operations.{Operation, operation, joinedList}
 use Rattle.meaning.specs.Verdicts.{verdict, passes, refusalNumber, refusalPlace}
 use Rattle.meaning.specs.Values.{Values}
-pub use Rattle.sweep.specs.Room.{joinedList}
 use Rattle.joins.specs.declared.Joining.{Joining}
 use Rattle.joins.specs.declared.Joining.the-variants.{Done, BadOperation, FirstRefused, SecondRefused, NoRoom}
 

@@ -2,7 +2,7 @@
 --   boxCells               the cells between the low and the high ends
 --   Operation, holds       union, overlap, first without second, exclusive or, of two memberships
 --   operation              document 01's number of an operation: 1 to 4
---   join                   the cells of which the operation holds
+--   join, joinedList       the cells of which the operation holds; their one list, of what two lists permit
 --   sectionAt              the squares at a code of an axis
 --   lowerHalf, upperHalf   the cells with code below p on an axis, and those with code p or above
 --   axisOf                 document 01's number of an axis: 0, 1, 2
@@ -14,7 +14,9 @@ use Prim.Native.Nat.{ℕ}
 use lib.IntN.{ℤ}
 use lib.Dec.{eqb}
 use lib.Signed.{leZ, ltZ}
-use Rattle.meaning.specs.Numbers.{Axis, focus, first, second, Cell, Square, Pair, codeOn, across}
+use Rattle.meaning.specs.Numbers.{Axis, focus, first, second, Cell, Corner, Square, Pair, codeOn, across}
+use Rattle.meaning.specs.Lists.{vertices, permitted}
+use Rattle.meaning.specs.OneList.{oneList}
 
 -- from the low end to below the high end
 abbrev pub between : ℤ → ℤ → ℤ → Bool
@@ -60,3 +62,7 @@ upperHalf axis p S c = leZ p (codeOn axis c) && S c
 abbrev pub pairNumbers : List Pair → List ℤ
 pairNumbers [] = []
 pairNumbers (p ∷ l) = p .one ∷ p .two ∷ pairNumbers l
+
+-- the one list of the cells of which an operation holds, of what two lists permit
+abbrev pub joinedList : Operation → List ℤ → List ℤ → List Corner
+joinedList o a b = oneList (join o (permitted (vertices a)) (permitted (vertices b)))

@@ -20,7 +20,7 @@ use Rattle.meaning.specs.Numbers.{Cell, Corner, cell, number}
 use Rattle.meaning.specs.Counting.{All}
 use Rattle.meaning.specs.Lists.{vertices, numbers, permitted, mostVertices, Valid}
 use Rattle.meaning.specs.OneList.{WithinCodes}
-use Rattle.meaning.specs.Operations.{Operation, operation, holds, join}
+use Rattle.meaning.specs.Operations.{Operation, operation, holds, join, joinedList}
 use Rattle.meaning.proofs.Parity.{_⊕_, sum, sum-ext, odd-count}
 use Rattle.meaning.proofs.Space.{all-map}
 use Rattle.meaning.proofs.Maps.{valid-within, one-permits, one-rising, one-corners}
@@ -33,7 +33,7 @@ use Rattle.rising.proofs.Sums.{sum-merged, from-merged, all-merged}
 use Rattle.rows.specs.Rows.{orExclusive, holdsBy}
 use Rattle.turn.proofs.Lists.{front-of}
 use Rattle.levels.specs.Level.{Operand, planeFits, planeOk, Joined}
-use Rattle.sweep.specs.Room.{joinedList, Filled, InRoom, Working}
+use Rattle.sweep.specs.Room.{Filled, InRoom, Working}
 
 -- ---- keys of the sweep are keys of corners
 

@@ -1,5 +1,4 @@
 -- Inner: two valid lists joined in working room.
---   joinedList         the one list of the cells of which the operation holds
 --   Filled, InRoom     a list at the front of a result that has room for a given number of vertices; the same of an operation's list
 --   Working            so many keys for each operand, the result, the section of each operand, and a merge
 use mathlib.Core.Path.{_≡_}
@@ -9,12 +8,8 @@ use Prim.Native.Nat.{ℕ, _*_, _≤_, _<_}
 use lib.IntN.{ℤ}
 use lib.ListN.{length, drop}
 use Rattle.meaning.specs.Numbers.{Corner}
-use Rattle.meaning.specs.Lists.{vertices, numbers, permitted}
-use Rattle.meaning.specs.OneList.{oneList}
-use Rattle.meaning.specs.Operations.{Operation, operation, join}
-
-abbrev pub joinedList : Operation → List ℤ → List ℤ → List Corner
-joinedList o a b = oneList (join o (permitted (vertices a)) (permitted (vertices b)))
+use Rattle.meaning.specs.Lists.{numbers}
+use Rattle.meaning.specs.Operations.{Operation, operation, joinedList}
 
 -- r is the list's length where the list fits, and the list stands at the front; else r is more than there is room for, and nothing is written
 pub record Filled (l : List Corner) (most : ℕ) (before : List ℤ) (r : ℕ) (after : List ℤ) : Type 0 where

@@ -21,7 +21,7 @@ use mir.Syntax.{w16}
 use mir.Val.{SFits, toZ, ofZ}
 use mir.ValLaws.{toZ-ofZ}
 use Rattle.meaning.specs.Numbers.{Axis, Cell, Corner, Pair, cell, isCode, isNumber}
-use Rattle.meaning.specs.Operations.{Operation, operation, axisOf}
+use Rattle.meaning.specs.Operations.{Operation, operation, joinedList, axisOf}
 use Rattle.meaning.proofs.Integers.{and-left, and-right}
 use Rattle.meaning.specs.Counting.{count, first}
 use Rattle.meaning.specs.Lists.{vertices, permitted, surrounding, howMany, mostVertices}
@@ -37,7 +37,7 @@ use Rattle.asks.specs.declared.CornerAnswer.{CornerAnswer}
 use Rattle.asks.specs.declared.Ends.{Ends}
 use Rattle.asks.proofs.Planes.{count-le}
 use Rattle.asks.proofs.Answers.{passes-map, ends-within}
-use Rattle.joins.specs.Join.{joinedList, fitsIn, madeAnswer, answerBy, JoinMade, joinValues}
+use Rattle.joins.specs.Join.{fitsIn, madeAnswer, answerBy, JoinMade, joinValues}
 use Rattle.joins.specs.declared.Joining.{Joining}
 use Rattle.joins.specs.declared.Joining.the-variants.{Done, FirstRefused, SecondRefused, NoRoom}
 use Rattle.cuts.specs.Answers.{fits, asked, checked, sectionValues, SectionOutcome, sectionKept, sectionPairs, placedPairs, sectionOutcome, SectionPromise, splitValues, SplitOutcome, splitKept, lowerList, upperList, placedHalves, splitOutcome, SplitPromise}

@@ -3,7 +3,8 @@ use borrow.Author.Needs.{needs}
 use mathlib.Core.Path.{subst}
 use mathlib.Core.List.{List}
 use lib.IntN.{ℤ}
-use Rattle.sweep.specs.Room.{joinedList, Filled}
+use Rattle.meaning.specs.Operations.{joinedList}
+use Rattle.sweep.specs.Room.{Filled}
 use Rattle.joins.proofs.Answers.{small-fits, small-kept}
 use Rattle.joins.proofs.join_small.Statement.{statement}
 use Rattle.joins.proofs.join_small.Tie as tie
