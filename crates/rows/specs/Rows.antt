@@ -8,6 +8,7 @@
 --   PutOnes           the places of the ones of a word, put out
 --   change            whether the operation of two memberships turns, where each of them may turn
 --   PutLine           the ends of the stretches of a line where the change is another than on the line before, put out
+-- `_⊕_` is exclusive or, and `sum` the exclusive or of a test over a list: whether an odd number of its members pass (`meaning/proofs/Parity.antt`).
 use mathlib.Core.Path.{_≡_}
 use mathlib.Core.Bool.{Bool}
 use mathlib.Core.List.{List, _++_}
