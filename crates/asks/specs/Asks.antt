@@ -1,13 +1,13 @@
 -- What the questions about one map promise (document 01, "What can be asked" and "Why a call comes back").
---   cellAnswer                    is this cell permitted: yes or no; for a list that is not valid, its refusal
---   CellValues, cellValues        document 01's number, operand, place and count of each answer, and its yes or no
---   valuesBy, CellPromise         what the cell query promises: the answer, and the values that the verdict asks for
---   cornerAnswer, CornerPromise   the mask of the cells round a corner, how many they are, and the kind; 0 for a list that is not valid
+--   cellValues, cellYes, cellSays    document 01's values of each answer of the cell query, and its yes or no; what an answer comes to
+--   cellOutcome, CellPromise      what the cell query comes to: yes or no; for a list that is not valid its refusal, and no; and its promise
+--   Report, cornerSays            the mask of the cells round a corner, how many they are, and the kind; what an answer of the corner report comes to
+--   cornerOutcome, CornerPromise  what the corner report comes to; 0 in all three for a list that is not valid; and its promise
 --   onPlane, planeNumbers, PlanePromise    the numbers of the vertices with a focus number; none for a list that is not valid
 --   beforePlane, throughPlane, planeEnds, EndsPromise    where they stand in the list: from all numbers of the vertices with a lower focus number
 --                                 to those of the vertices with a focus number that is not higher; from 0 to 0 for a list that is not valid
 use mathlib.Core.Path.{_≡_}
-use mathlib.Core.Bool.{Bool, true, false, _&&_, cond}
+use mathlib.Core.Bool.{Bool, true, false, cond}
 use mathlib.Core.List.{List, []}
 use Prim.Native.Nat.{ℕ, _*_}
 use lib.IntN.{ℤ}
@@ -15,53 +15,64 @@ use lib.Signed.{leZ, ltZ}
 use Rattle.meaning.specs.Numbers.{Cell, Corner}
 use Rattle.meaning.specs.Counting.{count, keep}
 use Rattle.meaning.specs.Lists.{vertices, numbers, permitted, howMany, mask, same}
-use Rattle.meaning.specs.Verdicts.{verdict, passes, refusalNumber, refusalPlace}
+use Rattle.meaning.specs.Verdicts.{verdict, passes}
 use Rattle.meaning.specs.Kinds.{kind}
-use Rattle.meaning.specs.declared.Verdict.{Verdict}
+use Rattle.meaning.specs.Outcomes.{Values, Outcome, outcome, Nothing, nothing, done, refused, verdictValues, kept, checked}
 use Rattle.asks.specs.declared.CellAnswer.{CellAnswer}
 use Rattle.asks.specs.declared.CellAnswer.the-variants.{Yes, No, Refused}
 use Rattle.asks.specs.declared.CornerAnswer.{CornerAnswer}
 use Rattle.asks.specs.declared.Ends.{Ends}
 
-abbrev pub cellAnswer : List ℤ → Cell → CellAnswer
-cellAnswer ns c = cond (passes (verdict ns)) (cond (permitted (vertices ns) c) Yes No) (Refused (verdict ns))
+-- ---- is this cell permitted
 
--- what document 01 has every answer carry, and the yes or no of the cell query
-pub record CellValues : Type 0 where
-  pub number : ℕ
-  pub operand : ℕ
-  pub place : ℕ
-  pub count : ℕ
-  pub yes : Bool
+-- the one list is operand 1
+abbrev pub cellValues : CellAnswer → Values
+cellValues Yes = done 0
+cellValues No = done 0
+cellValues (Refused v) = refused 1 v
 
--- the values of each answer; the one list is operand 1
-abbrev pub cellValues : CellAnswer → CellValues
-cellValues Yes = record { number = 0; operand = 0; place = 0; count = 0; yes = true }
-cellValues No = record { number = 0; operand = 0; place = 0; count = 0; yes = false }
-cellValues (Refused v) = record { number = refusalNumber v; operand = 1; place = refusalPlace v; count = 0; yes = false }
+abbrev pub cellYes : CellAnswer → Bool
+cellYes Yes = true
+cellYes No = false
+cellYes (Refused v) = false
 
--- the values that a verdict asks for, with whether the cell is permitted
-abbrev pub valuesBy : Verdict → Bool → CellValues
-valuesBy v b = record { number = refusalNumber v; operand = cond (passes v) 0 1; place = refusalPlace v; count = 0; yes = passes v && b }
+abbrev pub cellSays : CellAnswer → Outcome Bool Nothing
+cellSays r = outcome (cellValues r) (cellYes r) nothing
 
-pub record CellPromise (ns : List ℤ) (c : Cell) (r : CellAnswer) : Type 0 where
-  pub answer : r ≡ cellAnswer ns c
-  pub values : cellValues r ≡ valuesBy (verdict ns) (permitted (vertices ns) c)
+abbrev pub cellOutcome : List ℤ → Cell → Outcome Bool Nothing
+cellOutcome ns c = checked 1 (verdict ns) (kept false nothing) (outcome (done 0) (permitted (vertices ns) c) nothing)
+
+unfoldable pub CellPromise : List ℤ → Cell → CellAnswer → Type 0
+CellPromise ns c r = cellSays r ≡ cellOutcome ns c
+
+-- ---- the corner report
+
+pub record Report : Type 0 where
+  pub mask : ℕ
+  pub howMany : ℕ
+  pub kind : ℕ
+
+abbrev pub report : ℕ → ℕ → ℕ → Report
+report mask howMany kind = record { mask = mask; howMany = howMany; kind = kind }
+
+abbrev pub cornerSays : CornerAnswer → Outcome Report Nothing
+cornerSays r = outcome (verdictValues (r .verdict)) (report (r .mask) (r .«how_many») (r .kind)) nothing
+
+-- of the cells of a set round a corner
+abbrev pub reportOn : (Cell → Bool) → Corner → Report
+reportOn S v = report (mask S v) (howMany S v) (kind (mask S v))
+
+abbrev pub cornerOutcome : List ℤ → Corner → Outcome Report Nothing
+cornerOutcome ns v = checked 1 (verdict ns) (kept (report 0 0 0) nothing) (outcome (done 0) (reportOn (permitted (vertices ns)) v) nothing)
+
+unfoldable pub CornerPromise : List ℤ → Corner → CornerAnswer → Type 0
+CornerPromise ns v r = cornerSays r ≡ cornerOutcome ns v
+
+-- ---- planes
 
 -- 0 for a list that is not valid
 abbrev pub ofValid : List ℤ → ℕ → ℕ
 ofValid ns n = cond (passes (verdict ns)) n 0
-
-abbrev pub cornerAnswer : List ℤ → Corner → CornerAnswer
-cornerAnswer ns v = record {
-  verdict = verdict ns;
-  mask = ofValid ns (mask (permitted (vertices ns)) v);
-  «how_many» = ofValid ns (howMany (permitted (vertices ns)) v);
-  kind = ofValid ns (kind (mask (permitted (vertices ns)) v));
-}
-
-pub record CornerPromise (ns : List ℤ) (v : Corner) (r : CornerAnswer) : Type 0 where
-  pub answer : r ≡ cornerAnswer ns v
 
 abbrev pub onPlane : ℤ → Corner → Bool
 onPlane x v = same (v .focus) x

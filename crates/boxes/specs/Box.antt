@@ -3,19 +3,18 @@
 --   goodEnds                             low is a code, high is above low and at most the last corner number; on all three axes
 --   boxSet                               the cells of the box: from the low to below the high end on each axis
 --   boxVertices                          the eight corners, in the order of a list
---   valuesOf                             the number, operand, place and count of vertices of each case of the answer
---   boxValues, boxContents, BoxMade      the values of the answer, the contents at exit, and the promise, which is both
+--   boxValues, boxSays                   document 01's values of each case of the answer; what an answer and the contents at exit come to
+--   boxOutcome, BoxMade                  what making a box comes to, and the promise
 use mathlib.Core.Path.{_≡_}
 use mathlib.Core.Bool.{Bool, _&&_, cond}
-use mathlib.Core.List.{List, [], _∷_, _++_}
+use mathlib.Core.List.{List, [], _∷_}
 use Prim.Native.Nat.{ℕ}
-use lib.Dec.{leb}
 use lib.IntN.{ℤ, pos}
-use lib.ListN.{length, getD, drop}
+use lib.ListN.{getD}
 use lib.Signed.{leZ, ltZ}
 use Rattle.meaning.specs.Numbers.{Cell, Corner, corner, isCode, lastNumber}
 use Rattle.meaning.specs.Lists.{numbers}
-use Rattle.meaning.specs.Values.{Values, plain}
+use Rattle.meaning.specs.Outcomes.{Values, Outcome, outcome, Nothing, nothing, done, badNumber, noRoom, kept, perVertex, placed}
 use Rattle.meaning.specs.Operations.{boxCells}
 use Rattle.boxes.specs.declared.Boxed.{Boxed}
 use Rattle.boxes.specs.declared.Boxed.the-variants.{Done, BadEnds, NoRoom}
@@ -52,18 +51,17 @@ abbrev pub boxVertices : List (List ℤ) → List Corner
 boxVertices ends = eightCorners (lowOn ends 0) (highOn ends 0) (lowOn ends 1) (highOn ends 1) (lowOn ends 2) (highOn ends 2)
 
 -- done with eight vertices; bad ends; lack of room
-abbrev pub valuesOf : Boxed → Values
-valuesOf Done = plain 0 8
-valuesOf BadEnds = plain 9 0
-valuesOf NoRoom = plain 6 0
+abbrev pub boxValues : Boxed → Values
+boxValues Done = done 8
+boxValues BadEnds = badNumber
+boxValues NoRoom = noRoom
 
--- bad ends first, then too little room for eight vertices
-abbrev pub boxValues : List (List ℤ) → ℕ → Values
-boxValues ends room = cond (goodEnds ends) (cond (leb 24 room) (plain 0 8) (plain 6 0)) (plain 9 0)
+abbrev pub boxSays : Boxed → List ℤ → Outcome Nothing (List ℤ)
+boxSays r after = outcome (boxValues r) nothing after
 
--- the vertices at the front and everything behind them untouched, where the ends are good and there is room; else all untouched
-abbrev pub boxContents : List (List ℤ) → List ℤ → List ℤ
-boxContents ends out = cond (goodEnds ends && leb 24 (length out)) (numbers (boxVertices ends) ++ drop 24 out) out
+-- bad ends first; then the eight vertices, where they fit
+abbrev pub boxOutcome : List (List ℤ) → List ℤ → Outcome Nothing (List ℤ)
+boxOutcome ends before = cond (goodEnds ends) (placed perVertex numbers (boxVertices ends) before) (kept nothing before badNumber)
 
 unfoldable pub BoxMade : List (List ℤ) → List ℤ → Boxed → List ℤ → Type 0
-BoxMade ends before r after = (valuesOf r ≡ boxValues ends (length before)) × (after ≡ boxContents ends before)
+BoxMade ends before r after = boxSays r after ≡ boxOutcome ends before

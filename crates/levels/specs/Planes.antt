@@ -3,13 +3,11 @@
 --   Planes     two sections, and a plane's keys of each operand
 --   Rows       the rows of a plane's sweep
 --   Changed    the change that a plane makes, put out
--- `sum` is the exclusive or of a test over a list: whether an odd number of its members pass (`meaning/proofs/Parity.antt`).
 use mathlib.Core.Path.{_≡_}
 use mathlib.Core.List.{List}
 use Prim.Native.Nat.{ℕ, _+_, _-_, _*_, _%_, _≤_, _<_}
 use lib.ListN.{length}
-use Rattle.meaning.specs.Counting.{All}
-use Rattle.meaning.proofs.Parity.{sum}
+use Rattle.meaning.specs.Counting.{All, sum}
 use Rattle.rising.specs.Merged.{From, plusBase}
 use Rattle.rows.specs.Rows.{Put, change}
 use Rattle.levels.specs.Level.{Number, lineFits, lineOk}

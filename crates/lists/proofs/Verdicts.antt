@@ -4,6 +4,7 @@
 --   outside-stop, falls-stop, line-stop, all-passed     the whole verdict, by where each test fails first
 --   in-range                           a list whose vertices all pass the first test is in range
 --   Sound, sound-of, verdict-of        what the verdict "valid" gives; and back
+--   checked-verdict, verdict-checked   the promise of the check: its answer is the verdict
 --   settled                            two answers that the promise of the check allows are equal
 use mathlib.Core.Path.{_≡_, sym, _∙_, ap, ap₂}
 use mathlib.Core.Bool.{Bool, true, false, cond}
@@ -22,7 +23,9 @@ use Rattle.meaning.specs.declared.Verdict.{Verdict}
 use Rattle.meaning.specs.declared.Verdict.the-variants.{Valid, NotTriples, TooMany, OutOfRange, NotRising, OddLine}
 use Rattle.meaning.proofs.Checked.{place-all, verdict-valid}
 use Rattle.codes.specs.Keys.{cornerAt}
-use Rattle.lists.specs.Check.{Checked, InRange}
+use Rattle.meaning.specs.Outcomes.{nothing}
+use Rattle.meaning.proofs.Outcomes.{checked-values, verdict-once}
+use Rattle.lists.specs.Check.{checkSays, Checked, InRange}
 use Rattle.meaning.proofs.First.{first-facts}
 use Rattle.lists.proofs.Vertices.{at-vertices, outside-at}
 
@@ -112,7 +115,15 @@ sound-of ns e =
 pub verdict-of : (ns : List ℤ) → length ns % 3 ≡ 0 → Map (vertices ns) → verdict ns ≡ Valid
 verdict-of ns t m = verdict-valid ns .1 (t, m)
 
--- ---- the promise of the check is settled
+-- ---- the promise of the check
+
+pub verdict-checked : (ns : List ℤ) (r : Verdict) → r ≡ verdict ns → Checked ns r
+unfolding Checked
+verdict-checked ns r e = ap checkSays e ∙ sym (checked-values nothing nothing (verdict ns))
+
+pub checked-verdict : (ns : List ℤ) (r : Verdict) → Checked ns r → r ≡ verdict ns
+unfolding Checked
+checked-verdict ns r h = verdict-once r (verdict ns) (ap (λ o. o .values) (h ∙ checked-values nothing nothing (verdict ns)))
 
 pub settled : (ns : List ℤ) (r s : Verdict) → Checked ns r → Checked ns s → r ≡ s
-settled ns r s e f = e ∙ sym f
+settled ns r s h k = checked-verdict ns r h ∙ sym (checked-verdict ns s k)

@@ -1,5 +1,7 @@
 -- The promise of the check, and what its parts lend each other (document 01, "Why a call comes back", refusals 1 to 5).
---   Checked              the promise: what the check answers of a list of numbers
+--   checkSays            what a verdict comes to: its values
+--   checkOutcome         what the check of a list comes to: done, or the refusal of the one list
+--   Checked              the promise
 --   AllNumbers           every number of a list is a corner number
 --   InRange, AllRise     every vertex of a list of numbers is a corner; every vertex stands above the one before it
 --   Offsets              the offsets, in a vertex, of the two numbers that are left when an axis is left out
@@ -15,11 +17,18 @@ use Rattle.meaning.specs.Numbers.{Axis, focus, first as first·shift, second, C
 use Rattle.meaning.specs.Counting.{first}
 use Rattle.meaning.specs.Lists.{vertices, oddLine}
 use Rattle.meaning.specs.Verdicts.{verdict, at, fallsAt}
+use Rattle.meaning.specs.Outcomes.{Outcome, outcome, Nothing, nothing, done, verdictValues, kept, checked}
 use Rattle.meaning.specs.declared.Verdict.{Verdict}
 use Rattle.codes.specs.Keys.{cornerAt}
 
-abbrev pub Checked : List ℤ → Verdict → Type 0
-Checked ns r = r ≡ verdict ns
+abbrev pub checkSays : Verdict → Outcome Nothing Nothing
+checkSays r = outcome (verdictValues r) nothing nothing
+
+abbrev pub checkOutcome : List ℤ → Outcome Nothing Nothing
+checkOutcome ns = checked 1 (verdict ns) (kept nothing nothing) (outcome (done 0) nothing nothing)
+
+unfoldable pub Checked : List ℤ → Verdict → Type 0
+Checked ns r = checkSays r ≡ checkOutcome ns
 
 abbrev pub AllNumbers : List ℤ → Type 0
 AllNumbers ns = (i : ℕ) → i < length ns → isNumber (getD ns i (pos 0)) ≡ true

@@ -12,5 +12,6 @@ pub mod Making
 pub mod Closest
 pub mod KindTable
 pub mod Checked
+pub mod Outcomes
 pub mod Bits
 pub mod Examples

@@ -5,12 +5,8 @@ use mathlib.Core.Bool.{Bool, true, false, not, _&&_, _||_, cond, Bool·not-not, 
 use mathlib.Core.List.{List, [], _∷_, _++_, map}
 use Prim.Native.Nat.{ℕ, zero, suc}
 use Rattle.meaning.specs.Counting.{count, keep, All, odd}
+pub use Rattle.meaning.specs.Counting.{_⊕_, sum}
 use Rattle.meaning.specs.OneList.{each}
-
-infixr 55 _⊕_
-abbrev pub _⊕_ : Bool → Bool → Bool
-true ⊕ b = not b
-false ⊕ b = b
 
 pub ⊕-false : (a : Bool) → (a ⊕ false) ≡ a
 ⊕-false true = refl
@@ -53,10 +49,6 @@ pub ⊕-and : (a b c : Bool) → ((a ⊕ b) && c) ≡ ((a && c) ⊕ (b && c))
 ⊕-and false b c = refl
 
 module _ {A : Type 0} where
-  abbrev pub sum : (A → Bool) → List A → Bool
-  sum f [] = false
-  sum f (x ∷ l) = f x ⊕ sum f l
-
   -- an odd number of a list pass a test exactly when the exclusive or of the test over the list is true
   pub odd-count : (p : A → Bool) (l : List A) → odd (count p l) ≡ sum p l
   odd-count p [] = refl

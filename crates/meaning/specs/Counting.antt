@@ -1,5 +1,6 @@
 -- Counting, in the words that the documents use.
 --   count, odd   how many of a list pass a test; an odd number
+--   _⊕_, sum     exclusive or; the exclusive or of a test over a list, which is whether an odd number of its members pass
 --   keep         the members of a list that pass a test, in their order
 --   All          every member of a list
 --   first        the least number below n that passes a test, or n where none does
@@ -21,6 +22,15 @@ module _ {A : Type 0} where
   abbrev pub All : (A → Type 0) → List A → Type 0
   All P [] = Unit {0}
   All P (x ∷ l) = P x × All P l
+
+infixr 55 _⊕_
+abbrev pub _⊕_ : Bool → Bool → Bool
+true ⊕ b = not b
+false ⊕ b = b
+
+abbrev pub sum : {A : Type 0} → (A → Bool) → List A → Bool
+sum f [] = false
+sum f (x ∷ l) = f x ⊕ sum f l
 
 abbrev pub odd : ℕ → Bool
 odd zero = false

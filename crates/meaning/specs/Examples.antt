@@ -12,7 +12,7 @@ use Rattle.meaning.specs.Lists.{vertices, numbers, permitted, listed, ho
 use Rattle.meaning.specs.Verdicts.{verdict, refusalNumber, refusalPlace}
 use Rattle.meaning.specs.OneList.{oneListOver}
 use Rattle.meaning.specs.Operations.{join, union, overlap, boxCells}
-use Rattle.meaning.specs.Nearest.{distance, lower, nearestRefusal}
+use Rattle.meaning.specs.Nearest.{distance, lower, nearestOutcome}
 use Rattle.meaning.specs.Kinds.{kind}
 
 pub data Claim : Type 0 where
@@ -38,12 +38,15 @@ pub data Claim : Type 0 where
 few : List ℤ
 few = negsuc 0 ∷ pos 0 ∷ pos 1 ∷ pos 2 ∷ pos 3 ∷ pos 4 ∷ pos 5 ∷ []
 
+origin : Cell
+origin = cell (pos 0) (pos 0) (pos 0)
+
 unfoldable pub true-of : Claim → Bool
-unfolding few
+unfolding few origin
 true-of (verdictIs ns number place) = eqb (refusalNumber (verdict ns)) number && eqb (refusalPlace (verdict ns)) place
 true-of (permits ns c) = permitted (vertices ns) c
 true-of (forbids ns c) = not (permitted (vertices ns) c)
-true-of (nearestGets ns number) = eqb (nearestRefusal (vertices ns)) number
+true-of (nearestGets ns number) = eqb (nearestOutcome ns origin origin .values .number) number
 true-of (apart w c n) = eqb (distance w c) n
 true-of (taken c d) = lower c d && not (lower d c)
 true-of (has S c) = S c
@@ -110,9 +113,6 @@ atTheEnd x = x ∷ pos 512 ∷ pos 512 ∷ []
 
 givenTwice : List ℤ
 givenTwice = pos 0 ∷ pos 0 ∷ pos 0 ∷ pos 0 ∷ pos 0 ∷ pos 0 ∷ []
-
-origin : Cell
-origin = cell (pos 0) (pos 0) (pos 0)
 
 unfoldable pub table : List Example
 unfolding unitBoxLessOne unitFace wholeRange twoApart diagonal lowSlab highSlab atTheEnd givenTwice origin

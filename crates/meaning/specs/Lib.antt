@@ -3,7 +3,7 @@ pub mod Numbers
 pub mod Counting
 pub mod Lists
 pub mod Verdicts
-pub mod Values
+pub mod Outcomes
 pub mod OneList
 pub mod Operations
 pub mod Nearest

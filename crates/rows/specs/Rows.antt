@@ -8,7 +8,6 @@
 --   PutOnes           the places of the ones of a word, put out
 --   change            whether the operation of two memberships turns, where each of them may turn
 --   PutLine           the ends of the stretches of a line where the change is another than on the line before, put out
--- `_⊕_` is exclusive or, and `sum` the exclusive or of a test over a list: whether an odd number of its members pass (`meaning/proofs/Parity.antt`).
 use mathlib.Core.Path.{_≡_}
 use mathlib.Core.Bool.{Bool}
 use mathlib.Core.List.{List, _++_}
@@ -16,9 +15,8 @@ use mathlib.Core.Option.{Option, none, some}
 use Prim.Native.Nat.{ℕ, zero, suc, _+_, _-_, _*_, _/_, _%_, _^_, _≤_, _<_}
 use lib.Dec.{leb}
 use lib.ListN.{length, take, drop, getD}
-use Rattle.meaning.specs.Counting.{All, odd}
+use Rattle.meaning.specs.Counting.{All, _⊕_, odd, sum}
 use Rattle.meaning.specs.Operations.{Operation, exclusive, operation, holds}
-use Rattle.meaning.proofs.Parity.{_⊕_, sum}
 use Rattle.rising.specs.Merged.{From, plusBase}
 use Rattle.turn.specs.Turn.{planeOf}
 

@@ -23,7 +23,7 @@ use mathlib.Core.List.{List}
 use Prim.Native.Nat.{ℕ, _+_, _-_, _/_, _%_, _≤_, _<_, min}
 use lib.Dec.{leb, ltb}
 use lib.ListN.{length, getD, take}
-use Rattle.meaning.proofs.Parity.{sum}
+use Rattle.meaning.specs.Counting.{sum}
 use Rattle.rising.specs.Merged.{From}
 use Rattle.ranks.specs.declared.Scale.{Scale}
 use Rattle.ranks.specs.Values.{value, Least}

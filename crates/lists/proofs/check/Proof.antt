@@ -9,7 +9,7 @@ use lib.ListN.{length}
 use Rattle.meaning.specs.Lists.{vertices, mostVertices}
 use Rattle.lists.specs.Check.{InRange}
 use Rattle.lists.proofs.Vertices.{length-vertices}
-use Rattle.lists.proofs.Verdicts.{not-triples, too-many, in-range, outside-stop, falls-stop, line-stop, all-passed}
+use Rattle.lists.proofs.Verdicts.{not-triples, too-many, in-range, outside-stop, falls-stop, line-stop, all-passed, verdict-checked}
 use Rattle.lists.proofs.check.Statement.{statement}
 use Rattle.lists.proofs.check.Tie as tie
 
@@ -31,11 +31,13 @@ none-falls : (c : tie.Else4) → length (vertices (numbers (c .before .before .b
 none-falls c = omega (arith, length-vertices (numbers (c .before .before .before .before .before .before)))
 
 returns : tie.Need-returns
-returns c = not-triples (numbers (c .before)) (c .if1 .taken)
+returns c = verdict-checked _ _ (not-triples (numbers (c .before)) (c .if1 .taken))
 
 returns-2 : tie.Need-returns-2
 unfolding mostVertices
-returns-2 c = too-many (numbers (c .before .before)) (c .before .if1 .left) (omega (arith, length-vertices (numbers (c .before .before))))
+returns-2 c =
+    verdict-checked _ _
+    (too-many (numbers (c .before .before)) (c .before .if1 .left) (omega (arith, length-vertices (numbers (c .before .before)))))
 
 first-outside-requires : tie.Need-first-outside-requires
 first-outside-requires c κs = search needs
@@ -44,7 +46,8 @@ returns-3 : tie.Need-returns-3
 returns-3 c =
     let k = c .before .before in
     let l = numbers (k .before .before) in
-    outside-stop l (k .before .if1 .left) (few k) (c .before .first-outside .result) (c .before .first-outside .ensures) (omega (arith, length-vertices l))
+    verdict-checked _ _
+    (outside-stop l (k .before .if1 .left) (few k) (c .before .first-outside .result) (c .before .first-outside .ensures) (omega (arith, length-vertices l)))
 
 first-falling-requires : tie.Need-first-falling-requires
 first-falling-requires c κs = ranged c
@@ -54,8 +57,9 @@ returns-4 c =
     let s = c .before .before in
     let k = s .before .before in
     let l = numbers (k .before .before) in
-    falls-stop l (k .before .if1 .left) (few k) (s .before .first-outside .result) (s .before .first-outside .ensures) (none-outside s)
-    (c .before .first-falling .result) (c .before .first-falling .ensures) (omega (arith, length-vertices l))
+    verdict-checked _ _
+    (falls-stop l (k .before .if1 .left) (few k) (s .before .first-outside .result) (s .before .first-outside .ensures) (none-outside s)
+    (c .before .first-falling .result) (c .before .first-falling .ensures) (omega (arith, length-vertices l)))
 
 first-on-odd-line-requires : tie.Need-first-on-odd-line-requires
 first-on-odd-line-requires c κs =
@@ -68,9 +72,10 @@ returns-5 c =
     let s = w .before .before in
     let k = s .before .before in
     let l = numbers (k .before .before) in
-    line-stop l (k .before .if1 .left) (few k) (s .before .first-outside .result) (s .before .first-outside .ensures) (none-outside s)
+    verdict-checked _ _
+    (line-stop l (k .before .if1 .left) (few k) (s .before .first-outside .result) (s .before .first-outside .ensures) (none-outside s)
     (w .before .first-falling .result) (w .before .first-falling .ensures) (none-falls w)
-    (c .before .first-on-odd-line .result) (c .before .first-on-odd-line .ensures) (omega (arith, length-vertices l))
+    (c .before .first-on-odd-line .result) (c .before .first-on-odd-line .ensures) (omega (arith, length-vertices l)))
 
 returns-6 : tie.Need-returns-6
 returns-6 c =
@@ -78,9 +83,10 @@ returns-6 c =
     let s = w .before .before in
     let k = s .before .before in
     let l = numbers (k .before .before) in
-    all-passed l (k .before .if1 .left) (few k) (s .before .first-outside .result) (s .before .first-outside .ensures) (none-outside s)
+    verdict-checked _ _
+    (all-passed l (k .before .if1 .left) (few k) (s .before .first-outside .result) (s .before .first-outside .ensures) (none-outside s)
     (w .before .first-falling .result) (w .before .first-falling .ensures) (none-falls w)
-    (c .before .first-on-odd-line .result) (c .before .first-on-odd-line .ensures) (omega (arith, length-vertices l))
+    (c .before .first-on-odd-line .result) (c .before .first-on-odd-line .ensures) (omega (arith, length-vertices l)))
 
 pub check-spec : {M : Type 1} → statement M
 check-spec =
