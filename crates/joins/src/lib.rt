@@ -84,11 +84,9 @@ fn join_by_sweep(op: u32, a: &[i16], b: &[i16], most: usize, out: &mut [i16]) ->
 fn join_by_merge(a: &[i16], b: &[i16], most: usize, out: &mut [i16]) -> usize
     requires { ⌜ Valid (vertices (now a)) × Valid (vertices (now b)) ⌝ }
     requires { ⌜ 3 * most ≤ length (now out) ⌝ }
-    ensures {
-        λ r. ⌜
-            Filled (joinedList exclusive (now (a .entry)) (now (b .entry))) most (now (out .entry)) r (now (out .exit))
-        ⌝
-    }
+    ensures { λ r. ⌜
+        Filled (joinedList exclusive (now (a .entry)) (now (b .entry))) most (now (out .entry)) r (now (out .exit))
+        ⌝ }
 {
     let mut ka = [0u32; MOST_VERTICES];
     let mut kb = [0u32; MOST_VERTICES];
