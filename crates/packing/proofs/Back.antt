@@ -65,16 +65,24 @@ module _ (v : Values) (f : Few v) where
 
 -- ---- the plane query
 
+part-of : (start long : ℕ) → start < 2 ^ 32 → long < 2 ^ 32 → (bits 32 32 (start * 2 ^ 32 + long) ≡ start) × (bits 32 0 (start * 2 ^ 32 + long) ≡ long)
+part-of start long h k = (omega arith, omega arith)
+
 -- where it starts, 0 where it is empty, and its length
 pub reads-part : (r : Ends) (x : ℕ) → r .start ≤ r .end → r .end ≤ 3 * mostVertices → x ≡ packedPart r →
     (bits 32 32 x ≡ cond (eqb (r .start) (r .end)) 0 (r .start)) × (bits 32 0 x ≡ r .end - r .start)
 unfolding mostVertices
-reads-part r x h k e = go (eqb (r .start) (r .end)) refl e
+reads-part r x h k = go (eqb (r .start) (r .end)) refl (omega (arith, h, k)) (omega (arith, h, k))
   where
-    go : (t : Bool) → eqb (r .start) (r .end) ≡ t → x ≡ cond t 0 (r .start * 2 ^ 32 + (r .end - r .start)) →
+    go : (t : Bool) → eqb (r .start) (r .end) ≡ t → r .start < 2 ^ 32 → r .end - r .start < 2 ^ 32 →
+        x ≡ cond t 0 (r .start * 2 ^ 32 + (r .end - r .start)) →
         (bits 32 32 x ≡ cond t 0 (r .start)) × (bits 32 0 x ≡ r .end - r .start)
-    go true t e = let same = eqb-true (r .start) (r .end) t in (omega arith, omega arith)
-    go false t e = (omega arith, omega arith)
+    go true t p q e =
+        let none : r .end - r .start ≡ 0 = omega (arith, eqb-true (r .start) (r .end) t) in
+        (ap (bits 32 32) e, ap (bits 32 0) e ∙ sym none)
+    go false t p q e =
+        let (s, l) = part-of (r .start) (r .end - r .start) p q in
+        (ap (bits 32 32) e ∙ s, ap (bits 32 0) e ∙ l)
 
 -- ---- a cell that is found
 
