@@ -2,7 +2,10 @@
 use borrow.Author.Needs.{needs}
 use mathlib.Core.Path.{_≡_, sym, ap, _∙_}
 use mathlib.Core.Bool.{true}
+use Prim.Native.Nat.{_≤_}
+use native.Mathlib.Omega.{arith}
 use borrow.Author.Tests.{not-true, not-false}
+use Rattle.meaning.specs.Lists.{mostVertices}
 use Rattle.meaning.specs.Verdicts.{verdict, passes}
 use Rattle.meaning.proofs.Checked.{passes-valid}
 use Rattle.lists.proofs.Verdicts.{checked-verdict}
@@ -10,10 +13,10 @@ use Rattle.joins.proofs.Answers.{triple-room, bad-low, bad-high, first-
 use Rattle.joins.proofs.join.Statement.{statement}
 use Rattle.joins.proofs.join.Tie as tie
 
--- ---- the states, each seen from the next, and what they show of the two lists
+-- ---- the states, each seen from the next
 
-abbrev low : tie.Else2 → tie.Else1
-low e = e .before
+abbrev begun : tie.Else2 → tie.Start
+begun e = e .before .before
 
 abbrev first : tie.Else3 → tie.Else2
 first e = e .before .before .before
@@ -21,17 +24,20 @@ first e = e .before .before .before
 abbrev second : tie.Else4 → tie.Else3
 second e = e .before .before .before
 
-passes-a : (e : tie.Else3) → passes (verdict (low (first e) .before .args .a .now)) ≡ true
-passes-a e = ap passes (sym (checked-verdict _ _ (e .before .before .check .ensures))) ∙ sym (e .before .is-valid .ensures) ∙ not-false _ (e .if3 .left)
-
-passes-b : (e : tie.Else4) → passes (verdict (low (first (second e)) .before .args .b .now)) ≡ true
-passes-b e = ap passes (sym (checked-verdict _ _ (e .before .before .check2 .ensures))) ∙ sym (e .before .is-valid2 .ensures) ∙ not-false _ (e .if4 .left)
+-- ---- the operation, then the lists, then the room
 
 returns : tie.Need-returns
-returns c = bad-low _ _ _ _ (c .if1 .taken)
+returns c = bad-low _ _ _ _ (omega (arith, c .if1 .taken))
 
 returns-2 : tie.Need-returns-2
-returns-2 c = bad-high _ _ _ _ (c .if2 .taken)
+returns-2 c = bad-high _ _ _ _ (omega (arith, c .if2 .taken))
+
+-- the operation is one of the four
+op-low : (e : tie.Else2) → 1 ≤ begun e .args .op
+op-low e = omega (arith, e .before .if1 .left)
+
+op-high : (e : tie.Else2) → begun e .args .op ≤ 4
+op-high e = omega (arith, e .if2 .left)
 
 check-requires : tie.Need-check-requires
 check-requires c κs = search needs
@@ -42,8 +48,14 @@ is-valid-requires c κs = search needs
 returns-3 : tie.Need-returns-3
 returns-3 c =
     let g = c .before .before .before in
-    first-refused _ _ _ _ (low g .if1 .left) (g .if2 .left) _ (checked-verdict _ _ (c .before .before .check .ensures))
+    let s = begun g in
+    first-refused _ (s .args .a .now) (s .args .b .now) _ (op-low g) (op-high g) _ (checked-verdict _ _ (c .before .before .check .ensures))
     (sym (c .before .is-valid .ensures) ∙ not-true _ (c .if3 .taken))
+
+-- the first list passes
+passes-a : (e : tie.Else3) → passes (verdict (begun (first e) .args .a .now)) ≡ true
+passes-a e =
+    ap passes (sym (checked-verdict _ _ (e .before .before .check .ensures))) ∙ sym (e .before .is-valid .ensures) ∙ not-false _ (e .if3 .left)
 
 check-requires-2 : tie.Need-check-requires-2
 check-requires-2 c κs = search needs
@@ -55,8 +67,15 @@ returns-4 : tie.Need-returns-4
 returns-4 c =
     let f = c .before .before .before in
     let g = first f in
-    second-refused _ _ _ _ (low g .if1 .left) (g .if2 .left) (passes-a f) _ (checked-verdict _ _ (c .before .before .check2 .ensures))
+    let s = begun g in
+    second-refused _ (s .args .a .now) (s .args .b .now) _ (op-low g) (op-high g) (passes-a f) _
+    (checked-verdict _ _ (c .before .before .check2 .ensures))
     (sym (c .before .is-valid2 .ensures) ∙ not-true _ (c .if4 .taken))
+
+-- and the second
+passes-b : (e : tie.Else4) → passes (verdict (begun (first (second e)) .args .b .now)) ≡ true
+passes-b e =
+    ap passes (sym (checked-verdict _ _ (e .before .before .check2 .ensures))) ∙ sym (e .before .is-valid2 .ensures) ∙ not-false _ (e .if4 .left)
 
 fitting-requires : tie.Need-fitting-requires
 fitting-requires c κs = search needs
@@ -70,12 +89,14 @@ same-length : tie.Need-same-length
 same-length c = search needs
 
 returns-5 : tie.Need-returns-5
+unfolding mostVertices
 returns-5 c =
     let e = c .before .before .before .before .before in
     let f = second e in
     let g = first f in
-    no-room _ _ _ _ (low g .if1 .left) (g .if2 .left) (passes-a f) (passes-b e) (c .before .before .before .before .fitting .ensures)
-    (c .before .before .join-valid .ensures) (c .if5 .taken)
+    let room = c .before .before .before .before .fitting .ensures in
+    no-room _ _ _ _ (op-low g) (op-high g) (passes-a f) (passes-b e) room (c .before .before .join-valid .ensures)
+    (omega (arith, c .if5 .taken, triple-room room))
 
 same-length-2 : tie.Need-same-length-2
 same-length-2 c = search needs
@@ -85,8 +106,8 @@ returns-6 c =
     let e = c .before .before .before .before .before in
     let f = second e in
     let g = first f in
-    joined _ _ _ _ (low g .if1 .left) (g .if2 .left) (passes-a f) (passes-b e) (c .before .before .before .before .fitting .ensures)
-    (c .before .before .join-valid .ensures) (c .if5 .left)
+    joined _ _ _ _ (op-low g) (op-high g) (passes-a f) (passes-b e) (c .before .before .before .before .fitting .ensures)
+    (c .before .before .join-valid .ensures) (omega (arith, c .if5 .left))
 
 pub join-spec : {M : Type 1} → statement M
 join-spec =

@@ -15,6 +15,10 @@ abbrev μ-loop : tie.MeasureT-loop
 loop-holds : tie.Need-loop-holds Inv-loop μ-loop
 loop-holds c = search (reading-begins, needs)
 
+-- one turn: what is written is the key of the vertex that comes next
+loop-again : tie.Need-loop-again Inv-loop μ-loop
+loop-again c = rw (c .key-at .ensures) (reads-one _ _ _ _ (c .before .before .loop .inv) (omega arith))
+
 key-at-requires : tie.Need-key-at-requires Inv-loop μ-loop
 key-at-requires c κs = (omega arith, reading-corner _ _ _ _ (c .before .loop .inv) (omega arith))
 
@@ -29,9 +33,6 @@ add-i c = search needs
 
 loop-less : tie.Need-loop-less Inv-loop μ-loop
 loop-less c = search needs
-
-loop-again : tie.Need-loop-again Inv-loop μ-loop
-loop-again c = rw (c .key-at .ensures) (reads-one _ _ _ _ (c .before .before .loop .inv) (omega arith))
 
 same-length : tie.Need-same-length Inv-loop μ-loop
 same-length c = search needs
