@@ -12,8 +12,7 @@
    Nothing is kept after a call, no memory is taken, and functions may be called from several threads at once. Working
    arrays stand on the stack: have 64 KB of it free for a call (measured: at most 46 KB; docs/BENCH.md).
 
-   What comes back. Every function answers one uint64_t. Every answer but those of travelmap_plane and
-   travelmap_nearest has
+   What comes back. Every function answers one uint64_t, laid out as
 
        bits 56 to 63   the number: 0 when all is done, else why the call was refused (below)
        bits 48 to 55   the operand: the list that is refused, or the half of a split that does not fit, from 1; else 0
@@ -21,9 +20,11 @@
        bits 16 to 31   the second count, where a call makes two lists; else 0
        bits  0 to 15   the count of the vertices (pairs) of the list that was made; else 0
 
-   and the cell query, the corner report and the distance use the lower bits as they say below. After a refusal the
-   lower 32 bits are 0, and a result is untouched. After success the list stands at the front of the result, and
-   everything behind it is untouched. */
+   The number stands there in every answer; the plane query has none, and its bits there are 0. After a refusal the
+   operand and the place stand there too, the lower 32 bits are 0, and a result is untouched. After success the list
+   stands at the front of the result, and everything behind it is untouched. Functions that make no list use the bits
+   below the operand for what they give, as they say below: the cell query, the corner report and the distance the
+   lower 32, the plane query and nearest the lower 48. */
 
 #ifndef TRAVELMAP_H
 #define TRAVELMAP_H
@@ -72,12 +73,20 @@ enum travelmap_number {
 #define TRAVELMAP_START(answer) ((size_t)((uint64_t)(answer) >> 32))
 #define TRAVELMAP_LENGTH(answer) ((size_t)((uint64_t)(answer) & 0xFFFFFFFF))
 
-/* Nearest: the number, which stands elsewhere than in other answers, and the three codes of the cell. */
-#define TRAVELMAP_NEAREST_NUMBER(answer) ((unsigned)((uint64_t)(answer) >> 48))
-#define TRAVELMAP_SIGNED(bits) ((int16_t)((int32_t)((bits) & 0xFFFF) - (int32_t)((bits) & 0x8000) * 2))
-#define TRAVELMAP_NEAREST_FOCUS(answer) TRAVELMAP_SIGNED((uint64_t)(answer) >> 32)
-#define TRAVELMAP_NEAREST_FIRST(answer) TRAVELMAP_SIGNED((uint64_t)(answer) >> 16)
-#define TRAVELMAP_NEAREST_SECOND(answer) TRAVELMAP_SIGNED((uint64_t)(answer))
+/* Nearest: the three codes of the cell, 0 after a refusal; and the place of a refusal, 0 where there is a cell. Each takes
+   the number of the answer into account, so that no part of a refusal is taken for a code. */
+static inline int16_t travelmap_code(uint64_t answer, unsigned from) {
+    int32_t bits = (int32_t)(answer >> from & 0xFFFF);
+    if (TRAVELMAP_NUMBER(answer) != 0) return 0;
+    return (int16_t)(bits < 0x8000 ? bits : bits - 0x10000);
+}
+static inline unsigned travelmap_nearest_place(uint64_t answer) {
+    return TRAVELMAP_NUMBER(answer) != 0 ? TRAVELMAP_PLACE(answer) : 0;
+}
+#define TRAVELMAP_NEAREST_FOCUS(answer) travelmap_code((answer), 32)
+#define TRAVELMAP_NEAREST_FIRST(answer) travelmap_code((answer), 16)
+#define TRAVELMAP_NEAREST_SECOND(answer) travelmap_code((answer), 0)
+#define TRAVELMAP_NEAREST_PLACE(answer) travelmap_nearest_place(answer)
 
 /* The distance to the nearest cell. */
 #define TRAVELMAP_DISTANCE(answer) ((uint32_t)((uint64_t)(answer) & 0xFFFFFFFF))
@@ -145,9 +154,9 @@ uint64_t travelmap_split(const int16_t *list, size_t length, uint32_t axis, int1
                          int16_t *high, size_t high_length);
 
 /* The permitted cell nearest to a wish. The distance is the sum of the three differences without sign; of several cells
-   the one with the lowest focus, then the lowest first shift, then the lowest second shift. Bits 48 to 63: the number, 0,
-   1 to 5 of an invalid list, or 7 of the empty list. Then the cell's codes in two's complement, focus in bits 32 to 47,
-   first shift in 16 to 31, second shift in 0 to 15; all 0 after a refusal. */
+   the one with the lowest focus, then the lowest first shift, then the lowest second shift. Done: the cell's codes in
+   two's complement, focus in bits 32 to 47, first shift in 16 to 31, second shift in 0 to 15. Refused: 1 to 5 of an
+   invalid list, with operand 1 and the place, or 7 of the empty list; the codes are then 0. */
 uint64_t travelmap_nearest(const int16_t *list, size_t length, int16_t focus, int16_t first, int16_t second);
 
 /* The distance from a wish to the nearest permitted cell, in bits 0 to 31. An invalid list is answered with its refusal

@@ -85,14 +85,14 @@ static void asks(struct slice map) {
 static void wishes(struct slice map) {
     uint64_t near = travelmap_nearest(LENT(map), -3, 0, 0);
     uint64_t far = travelmap_nearest(LENT(map), 5, 5, 5);
-    same("nearest, number", 0, TRAVELMAP_NEAREST_NUMBER(near));
+    same("nearest, number", 0, TRAVELMAP_NUMBER(near));
     same("nearest, focus", -1, TRAVELMAP_NEAREST_FOCUS(near));
     same("nearest, first", 0, TRAVELMAP_NEAREST_FIRST(near));
     same("nearest, second", 0, TRAVELMAP_NEAREST_SECOND(near));
     same("nearest to another wish", (long)near, (long)far);
     same("distance", 2, (long)TRAVELMAP_DISTANCE(travelmap_nearest_distance(LENT(map), -3, 0, 0)));
     same("distance of another", 16, (long)TRAVELMAP_DISTANCE(travelmap_nearest_distance(LENT(map), 5, 5, 5)));
-    same("nearest of the empty list", TRAVELMAP_EMPTY, TRAVELMAP_NEAREST_NUMBER(travelmap_nearest(map.at, 0, 0, 0, 0)));
+    same("nearest of the empty list", TRAVELMAP_EMPTY, TRAVELMAP_NUMBER(travelmap_nearest(map.at, 0, 0, 0, 0)));
     same("distance of the empty list", TRAVELMAP_EMPTY, TRAVELMAP_NUMBER(travelmap_nearest_distance(map.at, 0, 0, 0, 0)));
 }
 

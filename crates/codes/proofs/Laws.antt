@@ -7,7 +7,8 @@
 --   isNumber-lifted, isCode-lifted        the ranges, after the crossing
 --   lifted-steps, lifted-number           the crossing of a number from the lowest up, or of a corner number, is its steps and 32256
 --   number-from, number-to                a corner number is from the lowest up, and at most the last
---   number-fits, number-steps-le          a corner number has 16 bits; its steps are at most 1024
+--   code-fits, number-fits                a code and a corner number have 16 bits
+--   number-steps-le                       the steps of a corner number are at most 1024
 --   steps-le, steps-lt, steps-same        steps keep the order, of corner numbers
 --   number-steps, steps-number            there and back
 --   number-le, number-lt, number-same, isNumber-number     of numbers given by their steps
@@ -22,7 +23,7 @@ use lib.Signed.{leZ, ltZ, mag}
 use mir.Syntax.{w16}
 use mir.Val.{SFits, hbits, toZ, ofZ}
 use mir.ValLaws.{toZ-ofZ}
-use Rattle.meaning.specs.Numbers.{lowest, lastNumber, isCode, isNumber, number, steps}
+use Rattle.meaning.specs.Numbers.{lowest, lastCode, lastNumber, isCode, isNumber, number, steps}
 use Rattle.meaning.specs.Lists.{same}
 use Rattle.meaning.proofs.Integers as I
 pub use Rattle.meaning.proofs.Integers.{number-le, number-lt, steps-number, number-isNumber as isNumber-number}
@@ -36,7 +37,7 @@ lifted-up : (z : ℤ) → lifted z ≡ up 32768 z
 lifted-up (pos n) = refl
 lifted-up (negsuc n) = refl
 
-above : (z : ℤ) → SFits w16 z → Above 32768 z
+pub above : (z : ℤ) → SFits w16 z → Above 32768 z
 above (pos n) f = tt
 above (negsuc n) f = f .sfits
 
@@ -114,6 +115,10 @@ above-number (negsuc n) e = omega (arith, leb-true n 511 (number-from (negsuc n)
 pub number-steps-le : (z : ℤ) → isNumber z ≡ true → steps z ≤ 1024
 number-steps-le (pos n) e = omega (arith, leb-true n 512 (number-to (pos n) e))
 number-steps-le (negsuc n) e = omega arith
+
+pub code-fits : (z : ℤ) → isCode z ≡ true → SFits w16 z
+code-fits (pos n) e = record { sfits = omega (arith, leb-true n 511 (and-both (leZ lowest (pos n)) (leZ (pos n) lastCode) e .1)) }
+code-fits (negsuc n) e = record { sfits = omega (arith, leb-true n 511 (and-both (leZ lowest (negsuc n)) (leZ (negsuc n) lastCode) e .0)) }
 
 pub number-fits : (z : ℤ) → isNumber z ≡ true → SFits w16 z
 number-fits (pos n) e = record { sfits = omega (arith, leb-true n 512 (number-to (pos n) e)) }

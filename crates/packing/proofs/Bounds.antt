@@ -4,8 +4,8 @@
 --   report-few                      the mask has eight bits, and how many and the kind are at most 8
 -- Assumes nothing.
 use mathlib.Core.Path.{_≡_, refl}
-use mathlib.Core.Bool.{Bool, true, false, cond}
-use mathlib.Core.List.{List, [], _∷_, map}
+use mathlib.Core.Bool.{Bool, true, false, _&&_, cond}
+use mathlib.Core.List.{List, [], _∷_}
 use mathlib.Core.Option.{Option, none, some}
 use Prim.Native.Nat.{ℕ, _+_, _*_, _%_, _^_, _≤_, _<_}
 use native.Mathlib.Omega.{arith}
@@ -16,7 +16,7 @@ use lib.ListN.{length}
 use Rattle.meaning.specs.Numbers.{Axis, Cell, Corner, isCode, isNumber}
 use Rattle.meaning.specs.Counting.{first}
 use Rattle.meaning.specs.Lists.{vertices, numbers, permitted, surrounding, weigh, mask, howMany, mostVertices}
-use Rattle.meaning.specs.Kinds.{kind, kindBy, halfEdges, isManifold, isNonManifold}
+use Rattle.meaning.specs.Kinds.{kind, kindBy}
 use Rattle.meaning.specs.Verdicts.{outsideAt, fallsAt, onOddLineAt, unlessAt, verdictOf, verdict, passes, refusalNumber, refusalPlace}
 use Rattle.meaning.specs.Operations.{Operation, operation, joinedList, axisOf, pairNumbers}
 use Rattle.meaning.specs.Outcomes.{Values, Outcome, outcome, Nothing, nothing, done, refused, refusal, verdictValues, badNumber, badOperation, noRoom, noRoomFor, emptyMap, kept, named, checked, perVertex, perPair, fits, placed}
@@ -27,6 +27,7 @@ use Rattle.meaning.proofs.Integers.{and-right}
 use Rattle.lists.specs.Check.{checkOutcome}
 use Rattle.boxes.specs.Box.{goodEnds, boxVertices, boxOutcome}
 use Rattle.asks.specs.Asks.{reportOn, cellOutcome, cornerOutcome}
+use Rattle.asks.proofs.Planes.{count-le}
 use Rattle.joins.specs.Join.{joinedBy, joinOutcome}
 use Rattle.cuts.specs.Answers.{Halves, halves, sectionPairs, sectionOutcome, lowerList, upperList, placedHalves, splitOutcome}
 use Rattle.packing.specs.Packed.{Few}
@@ -124,6 +125,9 @@ placed-few each numbersOf l before =
 done-few : Few (done 0)
 done-few = none-few 0 0 (omega arith) (omega arith)
 
+pub empty-few : Few emptyMap
+empty-few = none-few 7 0 (omega arith) (omega arith)
+
 bad-few : Few badNumber
 bad-few = none-few 9 0 (omega arith) (omega arith)
 
@@ -161,7 +165,7 @@ module _ (ns : List ℤ) where
   nearest-few w c = checked-few 1 ns nowhere nothing (nearestOf (vertices ns) w c) (omega arith) (by (vertices ns))
     where
       by : (l : List Corner) → Few (nearestOf l w c .values)
-      by [] = none-few 7 0 (omega arith) (omega arith)
+      by [] = empty-few
       by (v ∷ l) = done-few
 
 pub box-few : (ends : List (List ℤ)) (before : List ℤ) → Few (boxOutcome ends before .values)
@@ -173,3 +177,28 @@ join-few op a b before =
     named-few (operation op) (kept nothing before badOperation) (joinedBy a b before) (none-few 8 0 (omega arith) (omega arith))
     (λ o. checked-few 1 a nothing before _ (omega arith)
     (checked-few 2 b nothing before _ (omega arith) (placed-few perVertex numbers (joinedList o a b) before)))
+
+-- ---- the corner report
+
+eight-bits : (a b c d e f g h : Bool) → weigh (a ∷ b ∷ c ∷ d ∷ e ∷ f ∷ g ∷ h ∷ []) < 2 ^ 8
+eight-bits a b c d e f g h = omega (arith, one a, one b, one c, one d, one e, one f, one g, one h)
+  where
+    one : (b : Bool) → cond b 1 0 ≤ 1
+    one true = omega arith
+    one false = omega arith
+
+kind-few : (two non : ℕ) → kindBy two non < 2 ^ 8
+kind-few two non =
+    let small : ℕ → Type 0 = λ n. n < 2 ^ 8 in
+    either small (eqb two 3 && eqb non 0) 1 _ (λ e. omega arith)
+    (either small (eqb two 4 && eqb non 0) 2 _ (λ e. omega arith)
+    (either small (eqb two 3 && eqb non 1) 3 _ (λ e. omega arith)
+    (either small (eqb two 2 && eqb non 2) 4 _ (λ e. omega arith)
+    (either small (eqb two 4 && eqb non 1) 5 _ (λ e. omega arith)
+    (either small (eqb two 6 && eqb non 0) 6 _ (λ e. omega arith)
+    (either small (eqb two 3 && eqb non 3) 7 _ (λ e. omega arith)
+    (either small (eqb two 0 && eqb non 6) 8 0 (λ e. omega arith) (omega arith))))))))
+
+pub report-few : (S : Cell → Bool) (v : Corner) → (mask S v < 2 ^ 8) × (howMany S v < 2 ^ 8) × (kind (mask S v) < 2 ^ 8)
+unfolding kind
+report-few S v = (eight-bits _ _ _ _ _ _ _ _, omega (arith, count-le S (surrounding v)), kind-few _ _)

@@ -1,10 +1,10 @@
 -- Laws of the exported functions: what is passed on comes back, and what a function comes to is what is packed.
 --   back-one, back-three, back-ends      a signed number that is passed on comes back from its bits
 --   exported                             an answer that gives nothing beside its values, packed
---   check-place, check-packed, cell-fits, cell-packed, corner-fits, corner-packed, ends-fit, plane-packed    the check and the questions
+--   check-place, check-packed, cell-fits, cell-packed, corner-fits, corner-packed, ends-fit, ends-of, plane-packed    the check and the questions
 --   box-packed, join-fits, join-packed, section-fits, section-packed, split-fits, split-packed               what makes lists
 --   found-fits, found-packed             nearest
-use mathlib.Core.Path.{_≡_, sym, _∙_, ap, subst}
+use mathlib.Core.Path.{_≡_, refl, sym, _∙_, ap, subst}
 use mathlib.Core.Bool.{Bool, true, false, cond}
 use mathlib.Core.List.{List}
 use Prim.Native.Nat.{ℕ, _*_, _≤_}
@@ -107,6 +107,9 @@ module _ (ns : List ℤ) where
       go : (t : Bool) → passes (verdict ns) ≡ t → cond t (3 * count (throughPlane x) (vertices ns)) 0 ≤ 3 * mostVertices
       go true e = omega (arith, count-le (throughPlane x) (vertices ns), passes-map ns e .few)
       go false e = omega arith
+
+  pub ends-of : (x : ℤ) → (planeEnds ns x .start ≤ planeEnds ns x .end) × (planeEnds ns x .end ≤ 3 * mostVertices)
+  ends-of x = ends-fit x (planeEnds ns x) (record { answer = refl })
 
   pub plane-packed : (x : ℤ) → SFits w16 x → (a : Ends) (r : ℕ) → EndsPromise ns (back x) a → r ≡ packedPart a → PlanePacked ns x r
   plane-packed x f a r h e = e ∙ ap packedPart (h .answer) ∙ back-one (λ x. packedPart (planeEnds ns x)) x f

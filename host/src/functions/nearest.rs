@@ -4,7 +4,7 @@ use super::{compare_asked, time_wishes};
 use crate::bench::Table;
 use crate::cases::Case;
 use crate::compare::Run;
-use crate::judge::{Known, DONE, EMPTY};
+use crate::judge::{number, Answer, Known, EMPTY};
 use crate::map::Cell;
 use crate::{damage, plain};
 
@@ -19,19 +19,16 @@ pub fn cell(known: &Known, wish: [i16; 3]) -> Result<Cell, u8> {
     known.grid().nearest(wish.map(i32::from)).ok_or(EMPTY)
 }
 
-/// The answer due: the number in the top 16 bits, then the three codes, focus highest.
+/// The answer due: the three codes, focus highest; or number, operand and place.
 pub fn judge(known: &Known, wish: [i16; 3]) -> u64 {
-    let (number, codes) = match cell(known, wish) {
-        Ok(cell) => (DONE, cell.0),
-        Err(number) => (number, [0; 3]),
-    };
-    let [x, y, z] = codes.map(|code| u64::from(code as i16 as u16));
-    u64::from(number) << 48 | x << 32 | y << 16 | z
-}
-
-/// The number of an answer.
-fn number(packed: u64) -> u8 {
-    (packed >> 48) as u8
+    match cell(known, wish) {
+        Ok(cell) => {
+            let [x, y, z] = cell.0.map(|code| u64::from(code as i16 as u16));
+            x << 32 | y << 16 | z
+        }
+        Err(_) if !known.valid() => known.verdict.packed(),
+        Err(number) => Answer::refused(number).packed(),
+    }
 }
 
 /// Compares nearest with the judge's.
