@@ -22,25 +22,28 @@ use Rattle.codes.proofs.Tests.{and-both}
 use Rattle.frames.specs.declared.One.{One}
 use Rattle.frames.specs.declared.One.the-variants.{Ill, Number}
 use Rattle.frames.specs.declared.Three.the-variants.{Ill as Ill³, Numbers}
-use Rattle.frames.specs.Frames.{zero, lineEnd, byteAt, digitValue, fourOf, fourAt, lineAt, together, oneAt, threeAt, signed, word, digitOf}
+use Rattle.frames.specs.Frames.{digit0, digit9, digitA, digitF, lineEnd, byteAt, digitValue, fourOf, fourAt, lineAt, together}
+use Rattle.frames.specs.Frames.{oneAt, threeAt, signed, word, digitOf}
 
 -- ---- digits
 
 module _ (b : ℕ) where
-  pub value-under : b < 48 → 16 ≡ digitValue b
-  value-under h = rw (lt-leb 48 b h, lt-leb 65 b (omega arith))
+  pub value-under : b < digit0 → 16 ≡ digitValue b
+  value-under h = rw (lt-leb digit0 b h, lt-leb digitA b (omega arith))
 
-  pub value-lower : 48 ≤ b → b ≤ 57 → b - 48 ≡ digitValue b
-  value-lower h k = rw (le-leb 48 b h, le-leb b 57 k)
+  pub value-lower : digit0 ≤ b → b ≤ digit9 → b - digit0 ≡ digitValue b
+  value-lower h k = rw (le-leb digit0 b h, le-leb b digit9 k)
 
-  pub value-between : 57 < b → b < 65 → 16 ≡ digitValue b
-  value-between h k = rw (le-leb 48 b (omega arith), lt-leb b 57 h, lt-leb 65 b k)
+  pub value-between : digit9 < b → b < digitA → 16 ≡ digitValue b
+  value-between h k = rw (le-leb digit0 b (omega arith), lt-leb b digit9 h, lt-leb digitA b k)
 
-  pub value-upper : 65 ≤ b → b ≤ 70 → b - 55 ≡ digitValue b
-  value-upper h k = rw (le-leb 48 b (omega arith), lt-leb b 57 (omega arith), le-leb 65 b h, le-leb b 70 k)
+  pub value-upper : digitA ≤ b → b ≤ digitF → b - (digitA - 10) ≡ digitValue b
+  value-upper h k =
+      let is : b - (digitA - 10) ≡ 10 + (b - digitA) = omega arith in
+      is ∙ rw (le-leb digit0 b (omega arith), lt-leb b digit9 (omega arith), le-leb digitA b h, le-leb b digitF k)
 
-  pub value-over : 70 < b → 16 ≡ digitValue b
-  value-over h = rw (le-leb 48 b (omega arith), lt-leb b 57 (omega arith), le-leb 65 b (omega arith), lt-leb b 70 h)
+  pub value-over : digitF < b → 16 ≡ digitValue b
+  value-over h = rw (le-leb digit0 b (omega arith), lt-leb b digit9 (omega arith), le-leb digitA b (omega arith), lt-leb b digitF h)
 
 -- ---- four digits
 
@@ -90,17 +93,17 @@ module _ (s : List ℕ) (tag digits at : ℕ) where
     is-long : leb (at + digits + 3) (length s) ≡ true
     is-long = le-leb (at + digits + 3) (length s) (omega arith)
 
-    pub line-no-zero : (byteAt s at ≡ zero → ⊥) → false ≡ lineAt s tag digits at
+    pub line-no-zero : (byteAt s at ≡ digit0 → ⊥) → false ≡ lineAt s tag digits at
     unfolding lineAt
-    line-no-zero h = rw (is-long, ne-eqb (byteAt s at) zero h)
+    line-no-zero h = rw (is-long, ne-eqb (byteAt s at) digit0 h)
 
-    pub line-other : byteAt s at ≡ zero → (byteAt s (at + 1) ≡ tag → ⊥) → false ≡ lineAt s tag digits at
+    pub line-other : byteAt s at ≡ digit0 → (byteAt s (at + 1) ≡ tag → ⊥) → false ≡ lineAt s tag digits at
     unfolding lineAt
-    line-other h k = rw (is-long, eq-eqb (byteAt s at) zero h, ne-eqb (byteAt s (at + 1)) tag k)
+    line-other h k = rw (is-long, eq-eqb (byteAt s at) digit0 h, ne-eqb (byteAt s (at + 1)) tag k)
 
-    pub line-ends : byteAt s at ≡ zero → byteAt s (at + 1) ≡ tag → eqb (byteAt s (at + 2 + digits)) lineEnd ≡ lineAt s tag digits at
+    pub line-ends : byteAt s at ≡ digit0 → byteAt s (at + 1) ≡ tag → eqb (byteAt s (at + 2 + digits)) lineEnd ≡ lineAt s tag digits at
     unfolding lineAt
-    line-ends h k = rw (is-long, eq-eqb (byteAt s at) zero h, eq-eqb (byteAt s (at + 1)) tag k)
+    line-ends h k = rw (is-long, eq-eqb (byteAt s at) digit0 h, eq-eqb (byteAt s (at + 1)) tag k)
 
 -- ---- three numbers
 
@@ -154,8 +157,10 @@ word-high (negsuc n) f h = absurd (omega arith)
 
 -- ---- the digit of four bits
 
-pub digit-low : (d : ℕ) → d < 10 → 48 + d ≡ digitOf d
+pub digit-low : (d : ℕ) → d < 10 → digit0 + d ≡ digitOf d
 digit-low d h = rw (lt-ltb d 10 h)
 
-pub digit-high : (d : ℕ) → 10 ≤ d → 55 + d ≡ digitOf d
-digit-high d h = rw (le-ltb d 10 h)
+pub digit-high : (d : ℕ) → 10 ≤ d → digitA - 10 + d ≡ digitOf d
+digit-high d h =
+    let is : digitA - 10 + d ≡ digitA + (d - 10) = omega arith in
+    is ∙ rw (le-ltb d 10 h)

@@ -26,6 +26,7 @@ use Rattle.frames.specs.declared.One.{One}
 use Rattle.frames.specs.declared.One.the-variants.{Ill, Number}
 use Rattle.frames.specs.Frames.{lineEnd, oneAt}
 use Rattle.reading.specs.Reading.{Text, refused, whole, countTag, vertexTag, sumTag, wishTag, illAt, numbersFrom, unlessIll}
+use Rattle.reading.specs.Reading.{tooMany, illFormed, wrongSum, vertexPlace, sumPlace}
 use Rattle.reading.specs.Reading.{closingSum, byVerdict, closed, counted, mapText, wishPlace, wishLines, mostWishes, wishText}
 use Rattle.lists.proofs.Vertices.{length-vertices}
 use Rattle.reading.proofs.Runs.{numbers-long}
@@ -44,39 +45,39 @@ pub data MapTen (s : List ℕ) (p : ℕ) : Type 0 where
       → MapTen s p
 
 -- no other refusal of a map is 10
-not-verdict : (v : Verdict) (ns : List ℤ) (p : ℕ) → refused 10 p ≡ byVerdict ns v → ⊥
+not-verdict : (v : Verdict) (ns : List ℤ) (p : ℕ) → refused illFormed p ≡ byVerdict ns v → ⊥
 not-verdict Valid ns p e = let z : _≡_ {A = ℕ} 0 1 = cc in omega arith
-not-verdict NotTriples ns p e = let z : _≡_ {A = ℕ} 10 1 = cc in omega arith
-not-verdict TooMany ns p e = let z : _≡_ {A = ℕ} 10 2 = cc in omega arith
-not-verdict (OutOfRange i) ns p e = let z : _≡_ {A = ℕ} 10 3 = cc in omega arith
-not-verdict (NotRising i) ns p e = let z : _≡_ {A = ℕ} 10 4 = cc in omega arith
-not-verdict (OddLine i) ns p e = let z : _≡_ {A = ℕ} 10 5 = cc in omega arith
+not-verdict NotTriples ns p e = let z : _≡_ {A = ℕ} illFormed 1 = cc in omega arith
+not-verdict TooMany ns p e = let z : _≡_ {A = ℕ} illFormed 2 = cc in omega arith
+not-verdict (OutOfRange i) ns p e = let z : _≡_ {A = ℕ} illFormed 3 = cc in omega arith
+not-verdict (NotRising i) ns p e = let z : _≡_ {A = ℕ} illFormed 4 = cc in omega arith
+not-verdict (OddLine i) ns p e = let z : _≡_ {A = ℕ} illFormed 5 = cc in omega arith
 
 not-other : (a b p q : ℕ) → (a ≡ b → ⊥) → refused a p ≡ refused b q → ⊥
 not-other a b p q h e = h (cc)
 
-same-place : (p q : ℕ) → refused 10 p ≡ refused 10 q → p ≡ q
+same-place : (p q : ℕ) → refused illFormed p ≡ refused illFormed q → p ≡ q
 same-place p q e = cc
 
-not-end : (tag : ℕ) → 10 < tag → tag ≡ lineEnd → ⊥
+not-end : (tag : ℕ) → lineEnd < tag → tag ≡ lineEnd → ⊥
 not-end tag h e = omega arith
 
 module _ (s : List ℕ) (p : ℕ) where
   module _ (n : ℕ) (en : Number n ≡ oneAt s countTag 0) where
     abbrev ill : ℕ → Bool
-    ill = illAt s vertexTag 7
+    ill = illAt s vertexTag vertexPlace
 
     abbrev ns : List ℤ
-    ns = numbersFrom s vertexTag 7 n
+    ns = numbersFrom s vertexTag vertexPlace n
 
     well : (r : ℕ) → r ≤ first ill n → AllWell s vertexTag 1 r
-    well r h i k = run-well s vertexTag 7 1 (not-end vertexTag (omega arith)) (vertices-begin s en) n i (omega arith)
+    well r h i k = run-well s vertexTag vertexPlace 1 (not-end vertexTag (omega arith)) (vertices-begin s en) n i (omega arith)
 
-    by-sum : (m : ℕ) (t : Bool) → refused 10 p ≡ cond t (byVerdict ns (verdict ns)) (refused 11 0) → ⊥
+    by-sum : (m : ℕ) (t : Bool) → refused illFormed p ≡ cond t (byVerdict ns (verdict ns)) (refused wrongSum 0) → ⊥
     by-sum m true e = not-verdict (verdict ns) ns p e
-    by-sum m false e = not-other 10 11 p 0 (λ k. omega arith) e
+    by-sum m false e = not-other illFormed wrongSum p 0 (λ k. omega arith) e
 
-    by-closing : (o : One) → oneAt s sumTag (7 + 15 * n) ≡ o → n ≤ first ill n → refused 10 p ≡ closed n ns o → MapTen s p
+    by-closing : (o : One) → oneAt s sumTag (sumPlace n) ≡ o → n ≤ first ill n → refused illFormed p ≡ closed n ns o → MapTen s p
     by-closing Ill eo h e =
         let f = first-is ill n in
         at-sum n en (same-place p (n + 2) e) (count-well s en) (well n h) (sum-bad s en (λ k l. f .before k (omega arith)) (sym eo))
@@ -84,24 +85,24 @@ module _ (s : List ℕ) (p : ℕ) where
 
     -- what the lines behind the vertices' come to
     abbrev after : Text
-    after = closed n ns (oneAt s sumTag (7 + 15 * n))
+    after = closed n ns (oneAt s sumTag (sumPlace n))
 
-    by-lines : (t : Bool) → ltb (first ill n) n ≡ t → refused 10 p ≡ cond t (refused 10 (2 + first ill n)) after → MapTen s p
+    by-lines : (t : Bool) → ltb (first ill n) n ≡ t → refused illFormed p ≡ cond t (refused illFormed (2 + first ill n)) after → MapTen s p
     by-lines true h e =
         let k = ltb-true (first ill n) n h in
         at-vertex n (first ill n) en k (same-place p (2 + first ill n) e) (count-well s en) (well (first ill n) (omega arith))
-        (run-bad s vertexTag 7 1 (not-end vertexTag (omega arith)) (vertices-begin s en) n k)
-    by-lines false h e = by-closing (oneAt s sumTag (7 + 15 * n)) refl (ltb-false (first ill n) n h) e
+        (run-bad s vertexTag vertexPlace 1 (not-end vertexTag (omega arith)) (vertices-begin s en) n k)
+    by-lines false h e = by-closing (oneAt s sumTag (sumPlace n)) refl (ltb-false (first ill n) n h) e
 
-    by-many : (t : Bool) → refused 10 p ≡ cond t (refused 2 0) (unlessIll ill n 2 after) → MapTen s p
-    by-many true e = absurd (not-other 10 2 p 0 (λ k. omega arith) e)
+    by-many : (t : Bool) → refused illFormed p ≡ cond t (refused tooMany 0) (unlessIll ill n 2 after) → MapTen s p
+    by-many true e = absurd (not-other illFormed tooMany p 0 (λ k. omega arith) e)
     by-many false e = by-lines (ltb (first ill n) n) refl e
 
-  by-count : (o : One) → oneAt s countTag 0 ≡ o → refused 10 p ≡ counted s o → MapTen s p
+  by-count : (o : One) → oneAt s countTag 0 ≡ o → refused illFormed p ≡ counted s o → MapTen s p
   by-count Ill eo e = at-count (same-place p 1 e) (count-bad s (sym eo))
   by-count (Number n) eo e = by-many n (sym eo) (ltb mostVertices n) e
 
-  pub map-ten : refused 10 p ≡ mapText s → MapTen s p
+  pub map-ten : refused illFormed p ≡ mapText s → MapTen s p
   unfolding mapText
   map-ten e = by-count (oneAt s countTag 0) refl e
 
@@ -135,7 +136,7 @@ module _ (s : List ℕ) (n : ℕ) where
     which false q l = inl (omega (arith, ltb-false found 256 q, first-is wish-ill (min (wishLines s n) 256) .within))
 
     by-wishes : (p : ℕ) (t : Bool) → ltb (first bad (wishLines s n)) (wishLines s n) ≡ t
-        → refused 10 p ≡ cond t (refused 10 (n + 3 + first bad (wishLines s n))) (whole (numbersFrom s wishTag (wishPlace n) (wishLines s n))) → WishTen s n p
+        → refused illFormed p ≡ cond t (refused illFormed (n + 3 + first bad (wishLines s n))) (whole (numbersFrom s wishTag (wishPlace n) (wishLines s n))) → WishTen s n p
     by-wishes p true h k =
         let l = ltb-true (first bad (wishLines s n)) (wishLines s n) h in
         let there : found < wishLines s n = omega (arith, few) in
@@ -148,7 +149,7 @@ module _ (s : List ℕ) (n : ℕ) where
         }
     by-wishes p false h k = let z : _≡_ {A = ℕ} 0 1 = cc in absurd (omega arith)
 
-    pub wish-ten : (p : ℕ) → refused 10 p ≡ wishText s n → WishTen s n p
+    pub wish-ten : (p : ℕ) → refused illFormed p ≡ wishText s n → WishTen s n p
     unfolding wishText mostWishes
     wish-ten p e = by-wishes p (ltb (first bad (wishLines s n)) (wishLines s n)) refl e
 
@@ -158,10 +159,10 @@ module _ (s : List ℕ) (n : ℕ) where
 pub record Read (s : List ℕ) (ns : List ℤ) : Type 0 where
   pub count : ℕ
   pub counts : Number count ≡ oneAt s countTag 0
-  pub lines : (k : ℕ) → k < count → illAt s vertexTag 7 k ≡ false
+  pub lines : (k : ℕ) → k < count → illAt s vertexTag vertexPlace k ≡ false
   pub sum : ℕ
-  pub sums : Number sum ≡ oneAt s sumTag (7 + 15 * count)
-  pub numbers : ns ≡ numbersFrom s vertexTag 7 count
+  pub sums : Number sum ≡ oneAt s sumTag (sumPlace count)
+  pub numbers : ns ≡ numbersFrom s vertexTag vertexPlace count
   pub valid : verdict ns ≡ Valid
 
 not-refused : (ns : List ℤ) (a b : ℕ) → whole ns ≡ refused a b → ⊥
@@ -179,14 +180,14 @@ module _ (s : List ℕ) (ns : List ℤ) where
   through true a b next e = (refl, e)
   through false a b next e = absurd (not-refused ns a b e)
 
-  module _ (n : ℕ) (en : Number n ≡ oneAt s countTag 0) (all : n ≤ first (illAt s vertexTag 7) n) where
-    read-closing : (o : One) → oneAt s sumTag (7 + 15 * n) ≡ o → whole ns ≡ closed n (numbersFrom s vertexTag 7 n) o → Read s ns
-    read-closing Ill eo e = absurd (not-refused ns 10 (n + 2) e)
+  module _ (n : ℕ) (en : Number n ≡ oneAt s countTag 0) (all : n ≤ first (illAt s vertexTag vertexPlace) n) where
+    read-closing : (o : One) → oneAt s sumTag (sumPlace n) ≡ o → whole ns ≡ closed n (numbersFrom s vertexTag vertexPlace n) o → Read s ns
+    read-closing Ill eo e = absurd (not-refused ns illFormed (n + 2) e)
     read-closing (Number m) eo e =
-        let ms = numbersFrom s vertexTag 7 n in
+        let ms = numbersFrom s vertexTag vertexPlace n in
         let v = verdict ms in
-        let f = first-is (illAt s vertexTag 7) n in
-        let (right, k) = through (eqb m (closingSum n ms)) 11 0 (byVerdict ms v) e in
+        let f = first-is (illAt s vertexTag vertexPlace) n in
+        let (right, k) = through (eqb m (closingSum n ms)) wrongSum 0 (byVerdict ms v) e in
         let (none, l) = through (passes v) (refusalNumber v) (refusalPlace v) (whole ms) k in
         record {
           count = n;
@@ -199,13 +200,13 @@ module _ (s : List ℕ) (ns : List ℤ) where
         }
 
   read-count : (o : One) → oneAt s countTag 0 ≡ o → whole ns ≡ counted s o → Read s ns
-  read-count Ill eo e = absurd (not-refused ns 10 1 e)
+  read-count Ill eo e = absurd (not-refused ns illFormed 1 e)
   read-count (Number n) eo e =
-      let r = first (illAt s vertexTag 7) n in
-      let after = closed n (numbersFrom s vertexTag 7 n) (oneAt s sumTag (7 + 15 * n)) in
-      let (few, k) = past (ltb mostVertices n) 2 0 (unlessIll (illAt s vertexTag 7) n 2 after) e in
-      let (all, l) = past (ltb r n) 10 (2 + r) after k in
-      read-closing n (sym eo) (ltb-false r n all) (oneAt s sumTag (7 + 15 * n)) refl l
+      let r = first (illAt s vertexTag vertexPlace) n in
+      let after = closed n (numbersFrom s vertexTag vertexPlace n) (oneAt s sumTag (sumPlace n)) in
+      let (few, k) = past (ltb mostVertices n) tooMany 0 (unlessIll (illAt s vertexTag vertexPlace) n 2 after) e in
+      let (all, l) = past (ltb r n) illFormed (2 + r) after k in
+      read-closing n (sym eo) (ltb-false r n all) (oneAt s sumTag (sumPlace n)) refl l
 
   pub map-read : whole ns ≡ mapText s → Read s ns
   unfolding mapText
@@ -215,5 +216,5 @@ module _ (s : List ℕ) (ns : List ℤ) where
   pub read-begins : Read s ns → Begins s (length (vertices ns) + 2) (wishPlace (length (vertices ns)))
   read-begins r =
       let n : length (vertices ns) ≡ r .count =
-      length-vertices ns ∙ ap (λ l. length l / 3) (r .numbers) ∙ omega (arith, numbers-long s vertexTag 7 (r .count) (r .lines)) in
+      length-vertices ns ∙ ap (λ l. length l / 3) (r .numbers) ∙ omega (arith, numbers-long s vertexTag vertexPlace (r .count) (r .lines)) in
       subst (λ k. Begins s (k + 2) (wishPlace k)) (sym n) (wishes-begin s (r .counts) (r .lines) (r .sums))

@@ -164,7 +164,7 @@ pub fn read_wishes(s: &[u8], n: usize, list: &mut [i16]) -> Read
     ensures { λ r. ⌜ meant r (now (list .exit)) ≡ wishText (now (s .entry)) n ⌝ }
     ensures { λ r. ⌜ AtMost 256 r ⌝ }
 {
-    let start = 2 * SHORT_LINE + LONG_LINE * n;
+    let start = SHORT_LINE + LONG_LINE * n + SHORT_LINE;
     if s.len() <= start {
         return Read::Whole(0);
     }

@@ -9,7 +9,7 @@ use lib.Dec.{ltb}
 use lib.IntN.{ℤ}
 use lib.ListN.{length}
 use Rattle.meaning.specs.Lists.{vertices}
-use Rattle.reading.specs.Reading.{Text, refused, whole, mapText, wishText}
+use Rattle.reading.specs.Reading.{illFormed, tooLong, Text, refused, whole, mapText, wishText}
 use Rattle.reading.proofs.Places.{MapTen, map-ten, WishTen, wish-ten, map-read, read-begins}
 use Rattle.text.specs.Program.{refusal, answers, withWishes, withMap, mostBytes, outcome}
 
@@ -21,22 +21,22 @@ not-answers : (a b : ℕ) (ns ws : List ℤ) → refusal a b ≡ answers ns ws �
 not-answers a b ns ws e = let z : _≡_ {A = ℕ} 0 1 = cc in omega arith
 
 module _ (s : List ℕ) (p : ℕ) where
-  in-text : (a b : ℕ) (t : Text) → t ≡ refused a b → refusal 10 p ≡ refusal a b → refused 10 p ≡ t
+  in-text : (a b : ℕ) (t : Text) → t ≡ refused a b → refusal illFormed p ≡ refusal a b → refused illFormed p ≡ t
   in-text a b t e f = cc
 
-  by-wish-text : (ns : List ℤ) → whole ns ≡ mapText s → (t : Text) → wishText s (length (vertices ns)) ≡ t → refusal 10 p ≡ withWishes ns t → InputTen s p
+  by-wish-text : (ns : List ℤ) → whole ns ≡ mapText s → (t : Text) → wishText s (length (vertices ns)) ≡ t → refusal illFormed p ≡ withWishes ns t → InputTen s p
   by-wish-text ns e (refused a b) et f =
       in-wishes ns e (wish-ten s (length (vertices ns)) (read-begins s ns (map-read s ns e)) p (in-text a b (wishText s (length (vertices ns))) et f))
-  by-wish-text ns e (whole ws) et f = absurd (not-answers 10 p ns ws f)
+  by-wish-text ns e (whole ws) et f = absurd (not-answers illFormed p ns ws f)
 
-  by-map-text : (t : Text) → mapText s ≡ t → refusal 10 p ≡ withMap s t → InputTen s p
+  by-map-text : (t : Text) → mapText s ≡ t → refusal illFormed p ≡ withMap s t → InputTen s p
   by-map-text (refused a b) et f = in-map (map-ten s p (in-text a b (mapText s) et f))
   by-map-text (whole ns) et f = by-wish-text ns (sym et) (wishText s (length (vertices ns))) refl f
 
-  by-length : (t : Bool) → refusal 10 p ≡ cond t (refusal 12 0) (withMap s (mapText s)) → InputTen s p
-  by-length true e = let z : _≡_ {A = ℕ} 10 12 = cc in absurd (omega arith)
+  by-length : (t : Bool) → refusal illFormed p ≡ cond t (refusal tooLong 0) (withMap s (mapText s)) → InputTen s p
+  by-length true e = let z : _≡_ {A = ℕ} illFormed tooLong = cc in absurd (omega arith)
   by-length false e = by-map-text (mapText s) refl e
 
-  pub input-ten : refusal 10 p ≡ outcome s → InputTen s p
+  pub input-ten : refusal illFormed p ≡ outcome s → InputTen s p
   unfolding outcome
   input-ten e = by-length (ltb mostBytes (length s)) e
