@@ -4,21 +4,24 @@
 --   outside-stop, falls-stop, line-stop, all-passed     the whole verdict, by where each test fails first
 --   in-range                           a list whose vertices all pass the first test is in range
 --   Sound, sound-of, verdict-of        what the verdict "valid" gives; and back
+--   refused-not                        a verdict of any case but the first does not pass
 --   checked-verdict, verdict-checked   the promise of the check: its answer is the verdict
 --   settled                            two answers that the promise of the check allows are equal
-use mathlib.Core.Path.{_≡_, sym, _∙_, ap, ap₂}
+use mathlib.Core.Path.{_≡_, refl, sym, _∙_, ap, ap₂}
+use mathlib.Core.Logic.{inl, inr}
 use mathlib.Core.Bool.{Bool, true, false, cond}
 use mathlib.Core.List.{List, [], _∷_}
 use Prim.Native.Nat.{ℕ, zero, suc, _%_, _≤_, _<_}
 use native.Mathlib.Omega.{arith}
 use borrow.Author.Tests.{eq-eqb, ne-eqb, lt-ltb, le-ltb, not-false}
+use types.Run.{OneOf}
 use lib.Dec.{ltb}
 use lib.IntN.{ℤ}
 use lib.ListN.{length}
 use Rattle.meaning.specs.Numbers.{Axis, Corner, isCorner}
 use Rattle.meaning.specs.Counting.{first}
 use Rattle.meaning.specs.Lists.{vertices, below, Rising, oddLine, mostVertices, Valid as Map}
-use Rattle.meaning.specs.Verdicts.{at, outsideAt, fallsAt, onOddLineAt, unlessAt, verdict, verdictOf}
+use Rattle.meaning.specs.Verdicts.{at, outsideAt, fallsAt, onOddLineAt, unlessAt, verdict, verdictOf, passes}
 use Rattle.meaning.specs.declared.Verdict.{Verdict}
 use Rattle.meaning.specs.declared.Verdict.the-variants.{Valid, NotTriples, TooMany, OutOfRange, NotRising, OddLine}
 use Rattle.meaning.proofs.Checked.{place-all, verdict-valid}
@@ -114,6 +117,22 @@ sound-of ns e =
 
 pub verdict-of : (ns : List ℤ) → length ns % 3 ≡ 0 → Map (vertices ns) → verdict ns ≡ Valid
 verdict-of ns t m = verdict-valid ns .1 (t, m)
+
+-- a verdict whose case is none of the first does not pass
+pub refused-not : (v : Verdict) → OneOf (1 ∷ 2 ∷ 3 ∷ 4 ∷ 5 ∷ []) (denote.Enum.Declared.tagOf Rattle.meaning.proofs.Verdict.the-type v) → passes v ≡ false
+refused-not Valid h = absurd (never h)
+  where
+    never : OneOf (1 ∷ 2 ∷ 3 ∷ 4 ∷ 5 ∷ []) 0 → ⊥
+    never (inl e) = omega arith
+    never (inr (inl e)) = omega arith
+    never (inr (inr (inl e))) = omega arith
+    never (inr (inr (inr (inl e)))) = omega arith
+    never (inr (inr (inr (inr e)))) = omega arith
+refused-not NotTriples h = refl
+refused-not TooMany h = refl
+refused-not (OutOfRange i) h = refl
+refused-not (NotRising i) h = refl
+refused-not (OddLine i) h = refl
 
 -- ---- the promise of the check
 

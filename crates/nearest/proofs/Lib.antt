@@ -2,4 +2,5 @@
 pub mod Distances
 pub mod Ranks
 pub mod Reach
+pub mod Promise
 pub mod Answers

@@ -5,7 +5,8 @@ use mir.Syntax.{w16}
 use mir.ValLaws.{toZ-ofZ}
 use Rattle.meaning.specs.Numbers.{cell}
 use Rattle.nearest.specs.Answer.{Answered}
-use Rattle.nearest.proofs.Answers.{refused-some}
+use Rattle.lists.proofs.Verdicts.{refused-not, checked-verdict}
+use Rattle.nearest.proofs.Promise.{answered-refused}
 use Rattle.nearest.proofs.nearest.Statement.{statement}
 use Rattle.nearest.proofs.nearest.Tie as tie
 
@@ -16,10 +17,12 @@ enum-told : tie.Need-enum-told
 enum-told c = search needs
 
 returns : tie.Need-returns
-returns c = (sym (c .before .check .ensures), refused-some (c .before .check .result) (c .match .keys2))
+returns c =
+    let k = c .before .check in
+    answered-refused _ _ (k .result) (checked-verdict _ _ (k .ensures)) (refused-not (k .result) (c .match .keys2))
 
 nearest-of-map-requires : tie.Need-nearest-of-map-requires
-nearest-of-map-requires c κs = sym (c .before .before .check .ensures) ∙ c .enum-told .given .1
+nearest-of-map-requires c κs = sym (checked-verdict _ _ (c .before .before .check .ensures)) ∙ c .enum-told .given .1
 
 returns-2 : tie.Need-returns-2
 returns-2 c =

@@ -11,6 +11,7 @@ use mir.Val.{SFits, toZ, ofZ}
 use mir.ValLaws.{toZ-ofZ}
 use Rattle.meaning.specs.Numbers.{Cell, cell, number}
 use Rattle.meaning.specs.Lists.{vertices, mostVertices}
+use Rattle.meaning.specs.Verdicts.{passes}
 use Rattle.codes.specs.Lift.{lifted, lowered}
 use Rattle.codes.proofs.Laws.{lowered-lifted, lifted-fits}
 use Rattle.lists.proofs.Vertices.{length-vertices}
@@ -18,12 +19,13 @@ use Rattle.nearest.specs.declared.Found.{Found}
 use Rattle.nearest.specs.declared.Found.the-variants.{At}
 use Rattle.nearest.specs.Answer.{Answered}
 use Rattle.nearest.specs.Ranks.{Ranked, Askable}
-use Rattle.nearest.proofs.Answers.{empty-refusal, valid-list, not-empty, answered}
+use Rattle.nearest.proofs.Answers.{valid-list, not-empty, answered}
+use Rattle.nearest.proofs.Promise.{answered-empty}
 use Rattle.nearest.proofs.nearest_of_map.Statement.{statement}
 use Rattle.nearest.proofs.nearest_of_map.Tie as tie
 
 returns : tie.Need-returns
-returns c = (c .before .pre, empty-refusal (c .before .args .list .now) (omega arith))
+returns c = answered-empty (c .before .args .list .now) _ (ap passes (c .before .pre)) (omega arith)
 
 -- the list, and the wish, when the wish is lifted
 abbrev start : tie.After-lift3 → tie.Start
