@@ -11,6 +11,8 @@
 --   Well, Bad                the line with so many lines before it is such a frame; it is none
 --   count-well, count-bad    line 1
 --   run-well, run-bad        lines of three numbers one after the other, up to the first that is ill formed, and that one
+--   bad-one, bad-three, well-three    back again: such a line, where it is read, is read so
+--   run-lines                lines of three numbers that are all such frames are read so
 --   vertices-begin, sum-well, sum-bad, wishes-begin    the vertices' lines, the closing line and the wishes' lines begin where they are read
 --   wish-there               a wish line that is due has a byte
 use mathlib.Core.Path.{_≡_, refl, sym, _∙_, ap, subst}
@@ -233,6 +235,38 @@ module _ (s : List ℕ) (tag start lines : ℕ) (other : tag ≡ lineEnd → ⊥
           none = λ k. true≢false (sym (f .found h) ∙ frame-three s tag (start + longLine * r) k);
         }
 
+-- ---- back again: what a line is, it is where it is read
+
+module _ (s : List ℕ) (tag at k : ℕ) (from : Begins s k at) where
+  pub bad-one : (tag ≡ lineEnd → ⊥) → Bad s tag 4 k → Ill ≡ oneAt s tag at
+  bad-one other b = by (oneAt s tag at) refl
+    where
+      by : (o : One) → oneAt s tag at ≡ o → Ill ≡ o
+      by Ill e = refl
+      by (Number m) e = absurd (b .none (subst (Frame s tag 4) (begins-one s k at (b .place) from (b .begins)) (one-frame s tag at other (sym e))))
+
+  pub bad-three : (tag ≡ lineEnd → ⊥) → Bad s tag 12 k → isIll (threeAt s tag at) ≡ true
+  bad-three other b = by (isIll (threeAt s tag at)) refl
+    where
+      by : (t : Bool) → isIll (threeAt s tag at) ≡ t → t ≡ true
+      by true e = refl
+      by false e = absurd (b .none (subst (Frame s tag 12) (begins-one s k at (b .place) from (b .begins)) (three-frame s tag at other e)))
+
+  pub well-three : Well s tag 12 k → isIll (threeAt s tag at) ≡ false
+  well-three w = frame-three s tag at (subst (Frame s tag 12) (begins-one s k (w .place) at (w .begins) from) (w .frame))
+
+module _ (s : List ℕ) (tag start lines : ℕ) (other : tag ≡ lineEnd → ⊥) (from : Begins s lines start) where
+  pub run-lines : (n : ℕ) → ((i : ℕ) → i < n → Well s tag 12 (lines + i)) → (i : ℕ) → i < n → illAt s tag start i ≡ false
+  run-lines zero w i h = absurd (omega arith)
+  run-lines (suc n) w i h = by (run-lines n (λ j l. w j (omega arith))) (ltb i n) refl
+    where
+      by : ((j : ℕ) → j < n → illAt s tag start j ≡ false) → (t : Bool) → ltb i n ≡ t → illAt s tag start i ≡ false
+      by r true e = r i (ltb-true i n e)
+      by r false e =
+          let last : n ≡ i = omega (arith, ltb-false i n e) in
+          let here = run-begins s tag start lines other from n r in
+          subst (λ j. illAt s tag start j ≡ false) last (well-three s tag (start + longLine * n) (lines + n) here (w n (omega arith)))
+
 -- a closing line or line 1 that is ill formed
 one-bad : (s : List ℕ) (tag at k : ℕ) → Begins s k at → Ill ≡ oneAt s tag at → Bad s tag 4 k
 one-bad s tag at k b e =
@@ -254,7 +288,7 @@ module _ (s : List ℕ) where
     vertices-begin = (0, refl, one-frame s countTag 0 (λ e. omega arith) en .line)
 
     module _ (well : (k : ℕ) → k < n → illAt s vertexTag vertexPlace k ≡ false) where
-      sum-begins : Begins s (1 + n) (sumPlace n)
+      pub sum-begins : Begins s (1 + n) (sumPlace n)
       sum-begins = run-begins s vertexTag vertexPlace 1 (λ e. omega arith) vertices-begin n well
 
       pub sum-bad : Ill ≡ oneAt s sumTag (sumPlace n) → Bad s sumTag 4 (1 + n)

@@ -1,6 +1,7 @@
 -- The order of the reader's checks: what the text comes to, by the first check that fails.
 --   map-ill-count, map-counted       the text of a map, by its line 1
 --   count-many .. sum-right          what follows a count
+--   most-vertices                    the most vertices are 1,024
 --   first-within                     the first of the places that are past a limit or pass a test
 --   wish-none, wish-ill, wish-all    the text of the wishes
 --   wish-few                         if it is well formed they are at most 256
@@ -25,7 +26,7 @@ use Rattle.reading.specs.Reading.{closingSum, byVerdict, closed, counted
 
 -- ---- a run of lines
 
-unless-found : (p : ℕ → Bool) (n line r : ℕ) (next : Text) → r ≡ first p n → r < n → refused illFormed (line + r) ≡ unlessIll p n line next
+pub unless-found : (p : ℕ → Bool) (n line r : ℕ) (next : Text) → r ≡ first p n → r < n → refused illFormed (line + r) ≡ unlessIll p n line next
 unless-found p n line r next e h =
     ap (λ k. refused illFormed (line + k)) e ∙
     sym (ap (λ t. cond t (refused illFormed (line + first p n)) next) (lt-ltb (first p n) n (subst (_< n) e h)))
@@ -35,6 +36,10 @@ unless-none p n line r next e h =
     sym (ap (λ t. cond t (refused illFormed (line + first p n)) next) (le-ltb (first p n) n (subst (n ≤_) e h)))
 
 -- ---- a map
+
+pub most-vertices : mostVertices ≡ 1024
+unfolding mostVertices
+most-vertices = refl
 
 module _ (s : List ℕ) where
   pub map-ill-count : Ill ≡ oneAt s countTag 0 → refused illFormed 1 ≡ mapText s
@@ -50,16 +55,15 @@ module _ (s : List ℕ) where
     abbrev after : Text
     after = closed n (numbersFrom s vertexTag vertexPlace n) (oneAt s sumTag (sumPlace n))
 
-    by-count : (t : Bool) → ltb 1024 n ≡ t → cond t (refused tooMany 0) (unlessIll (illAt s vertexTag vertexPlace) n 2 after) ≡ counted s (Number n)
-    unfolding mostVertices
+    by-count : (t : Bool) → ltb mostVertices n ≡ t → cond t (refused tooMany 0) (unlessIll (illAt s vertexTag vertexPlace) n 2 after) ≡ counted s (Number n)
     by-count t e = ap (λ u. cond u (refused tooMany 0) (unlessIll (illAt s vertexTag vertexPlace) n 2 after)) (sym e)
 
-    pub count-many : 1024 < n → refused tooMany 0 ≡ counted s (Number n)
-    count-many h = by-count true (lt-ltb 1024 n h)
+    pub count-many : mostVertices < n → refused tooMany 0 ≡ counted s (Number n)
+    count-many h = by-count true (lt-ltb mostVertices n h)
 
-    module _ (h : n ≤ 1024) {r : ℕ} (er : r ≡ first (illAt s vertexTag vertexPlace) n) where
+    module _ (h : n ≤ mostVertices) {r : ℕ} (er : r ≡ first (illAt s vertexTag vertexPlace) n) where
       few : unlessIll (illAt s vertexTag vertexPlace) n 2 after ≡ counted s (Number n)
-      few = by-count false (le-ltb 1024 n h)
+      few = by-count false (le-ltb mostVertices n h)
 
       pub count-ill-vertex : r < n → refused illFormed (2 + r) ≡ counted s (Number n)
       count-ill-vertex k = unless-found (illAt s vertexTag vertexPlace) n 2 r after er k ∙ few

@@ -8,12 +8,13 @@ use denote.Ref.{now}
 use lib.IntN.{ℤ}
 use lib.ListN.{length, take}
 use lib.Seq.{length-take-le}
+use Rattle.meaning.specs.Lists.{mostVertices}
 use Rattle.frames.specs.declared.One.the-variants.{Number}
 use Rattle.frames.specs.Frames.{oneAt}
 use Rattle.lists.proofs.Verdicts.{checked-verdict}
 use Rattle.reading.specs.Reading.{vertexTag, sumTag, numbersFrom, byVerdict, vertexPlace, sumPlace}
 use Rattle.reading.proofs.Runs.{all-read}
-use Rattle.reading.proofs.Order.{count-ill-vertex, count-ill-sum, sum-wrong, sum-right}
+use Rattle.reading.proofs.Order.{most-vertices, count-ill-vertex, count-ill-sum, sum-wrong, sum-right}
 use Rattle.reading.proofs.read_counted.Statement.{statement}
 use Rattle.reading.proofs.read_counted.Tie as tie
 
@@ -27,8 +28,8 @@ count f = f .before .before .before .args .n
 abbrev filled : tie.After-frames-from → List ℤ
 filled f = f .frames-from .last .1 .1 .1 .1 .0
 
-few : (f : tie.After-frames-from) → count f ≤ 1024
-few f = f .before .before .before .pre .0
+few : (f : tie.After-frames-from) → count f ≤ mostVertices
+few f = omega (arith, most-vertices, f .before .before .before .pre .0)
 
 -- the numbers of the vertices are in the list
 fits : (f : tie.After-frames-from) → 3 * count f ≤ length (filled f)
