@@ -3,8 +3,8 @@
 --   copied-long, copied-more, copied-all, copied-front   a line copied to a place: the length stays; one byte more; all bytes; to the front
 --   answer-at, answer-empty, answer-refused   what nearest answers of a valid list is the line of the wish
 --   answer-long, answers-long          an 05 line has 17 bytes, and n of them 17n
-use mathlib.Core.Path.{_≡_, sym, _∙_, ap, ap₂}
-use mathlib.Core.Bool.{false≢true}
+use mathlib.Core.Path.{_≡_, sym, _∙_, ap, ap₂, subst}
+use mathlib.Core.Bool.{true≢false, false≢true}
 use mathlib.Core.List.{List, [], _∷_, _++_}
 use Prim.Native.Nat.{ℕ, zero, suc, _+_, _*_, _≤_, _<_}
 use native.Mathlib.Omega.{arith}
@@ -14,12 +14,13 @@ use lib.ListN.{length, drop, set, getD, length-append}
 use lib.Seq.{paste, paste-suc, length-paste, take-length}
 use Rattle.meaning.specs.Numbers.{Cell, Corner, cell}
 use Rattle.meaning.specs.Lists.{vertices, permitted}
-use Rattle.meaning.specs.Verdicts.{verdict, refusalNumber}
-use Rattle.meaning.specs.Nearest.{Nearest, nearestRefusal}
+use Rattle.meaning.specs.Verdicts.{verdict, passes}
+use Rattle.meaning.specs.Nearest.{Nearest}
 use Rattle.meaning.specs.declared.Verdict.{Verdict}
 use Rattle.meaning.specs.declared.Verdict.the-variants.{Valid}
 use Rattle.nearest.specs.Answer.{Answered}
 use Rattle.nearest.specs.declared.Found.the-variants.{At, Empty, Refused}
+use Rattle.nearest.proofs.Promise.{found-cell, found-empty, found-refused}
 use Rattle.frames.specs.Frames.{fourDigits}
 use Rattle.answers.specs.Answers.{cellLine, emptyLine, wishAt, AnswerLine, Answers}
 
@@ -61,21 +62,14 @@ copied-front out {line} {whole} {now} h e =
 
 module _ (ns : List ℤ) (w : Cell) (line : List ℕ) where
   pub answer-at : (a b d : ℤ) (n : ℕ) → Answered ns w (At a b d n) → line ≡ cellLine (cell a b d) → AnswerLine (vertices ns) w line
-  answer-at a b d n h e = by (vertices ns) (h .1)
+  answer-at a b d n h e = by (vertices ns) (found-cell ns w a b d n h .1)
     where
       by : (l : List Corner) → Nearest (permitted l) w (cell a b d) → AnswerLine l w line
       by [] p = absurd (false≢true (p .member))
       by (v ∷ l) p = record { at = cell a b d; nearest = p; is = e }
 
   pub answer-empty : Answered ns w Empty → line ≡ emptyLine → AnswerLine (vertices ns) w line
-  answer-empty h e = by (vertices ns) (h .1)
-    where
-      by : (l : List Corner) → 7 ≡ nearestRefusal l → AnswerLine l w line
-      by [] p = e
-      by (v ∷ l) p = absurd (omega arith)
+  answer-empty h e = subst (λ l. AnswerLine l w line) (sym (found-empty ns w h .1)) e
 
   pub answer-refused : (v : Verdict) → verdict ns ≡ Valid → Answered ns w (Refused v) → AnswerLine (vertices ns) w line
-  answer-refused v valid h = absurd (none (h .1) (ap refusalNumber (sym (h .0) ∙ valid)))
-    where
-      none : {n : ℕ} → 0 < n → n ≡ 0 → ⊥
-      none p e = omega arith
+  answer-refused v valid h = absurd (true≢false (sym (ap passes valid) ∙ found-refused ns w v h .1))

@@ -1,70 +1,81 @@
 -- The list of a box: what the promise of making one says, and that the eight corners are the map of the cells between the ends.
---   made-bad, made-narrow, made-done     the promise, by the tests
 --   values-once                          the values tell the answers apart
---   box-settled                          two outcomes that the promise allows are equal
+--   by-ends, room-for                    the outcome, by the test of the ends; the test of the room
+--   made-bad, made-narrow, made-done     the promise, by the tests
+--   box-settled                          two outcomes that the promise allows are equal, answer and contents
 --   Ends, ends-of                        good ends of one axis
 --   between-steps, between-code          the numbers between them: from the low end on and not from the high end on; all codes
 --   box-rising, box-permits, box-within  the eight corners rise, and permit the cells of the box, which are within the codes
 --   box-one, box-valid                   they are the one list of those cells, and a valid list
 use mathlib.Core.Path.{_≡_, refl, sym, _∙_, ap, ap₂, subst}
-use mathlib.Core.Bool.{Bool, true, false, not, _&&_, _||_, cond, or-true, false≢true}
-use mathlib.Core.List.{List, _++_}
+use mathlib.Core.Bool.{Bool, true, false, not, _&&_, _||_, cond, or-true, and-true, false≢true}
+use mathlib.Core.List.{List}
 use Prim.Native.Nat.{ℕ, _≤_, _<_}
 use native.Mathlib.Omega.{arith}
 use borrow.Author.Tests.{le-leb, lt-leb}
-use lib.Dec.{leb}
+use lib.Dec.{leb, eqb}
 use lib.IntN.{ℤ}
-use lib.ListN.{length, drop}
+use lib.ListN.{length}
 use lib.Signed.{leZ, ltZ}
 use Rattle.meaning.specs.Numbers.{Cell, corner, lowest, lastCode, lastNumber, isCode}
 use Rattle.meaning.specs.Lists.{numbers, atOrBelow, permitted, below, Rising, mostVertices, Valid}
 use Rattle.meaning.specs.OneList.{oneList, WithinCodes}
 use Rattle.meaning.specs.Operations.{between, boxCells}
-use Rattle.meaning.specs.Values.{plain}
+use Rattle.meaning.specs.Outcomes.{Values, Outcome, Nothing, nothing, badNumber, kept, perVertex, fits, front, placed}
 use Rattle.meaning.proofs.Parity.{_⊕_, ⊕-false, ⊕-assoc, ⊕-and, and-⊕, odd-count}
 use Rattle.meaning.proofs.Integers.{and-left, and-right, and-both, leZ-refl, leZ-trans, ltZ-not, ltZ-le, ltZ-leZ, ltZ-trans, under-number}
+use Rattle.meaning.proofs.Outcomes.{placed-fits, placed-short}
 use Rattle.meaning.proofs.Maps.{is-one-list, one-valid}
-use Rattle.boxes.specs.Box.{lowOn, highOn, goodEnd, goodEnds, boxSet, eightCorners, boxVertices, valuesOf, BoxMade}
+use Rattle.boxes.specs.Box.{lowOn, highOn, goodEnd, goodEnds, boxSet, eightCorners, boxVertices, boxValues, boxSays, boxOutcome, BoxMade}
 use Rattle.boxes.specs.declared.Boxed.{Boxed}
 use Rattle.boxes.specs.declared.Boxed.the-variants.{Done, BadEnds, NoRoom}
 
 -- ---- the promise
 
--- the number tells the answers apart
-pub values-once : (r s : Boxed) → valuesOf r ≡ valuesOf s → r ≡ s
-values-once Done Done e = refl
-values-once Done BadEnds e = absurd (omega (arith, ap (λ v. v .number) e))
-values-once Done NoRoom e = absurd (omega (arith, ap (λ v. v .number) e))
-values-once BadEnds Done e = absurd (omega (arith, ap (λ v. v .number) e))
-values-once BadEnds BadEnds e = refl
-values-once BadEnds NoRoom e = absurd (omega (arith, ap (λ v. v .number) e))
-values-once NoRoom Done e = absurd (omega (arith, ap (λ v. v .number) e))
-values-once NoRoom BadEnds e = absurd (omega (arith, ap (λ v. v .number) e))
-values-once NoRoom NoRoom e = refl
+-- the answer with these values: the number tells
+abbrev boxBy : Values → Boxed
+boxBy v = cond (eqb (v .number) 0) Done (cond (eqb (v .number) 9) BadEnds NoRoom)
 
-module _ (ends : List (List ℤ)) (out : List ℤ) where
-  -- the promise, by what the two tests say
-  made-by : (r : Boxed) (after : List ℤ) (t u : Bool) → goodEnds ends ≡ t → leb 24 (length out) ≡ u →
-      valuesOf r ≡ cond t (cond u (plain 0 8) (plain 6 0)) (plain 9 0) →
-      after ≡ cond (t && u) (numbers (boxVertices ends) ++ drop 24 out) out → BoxMade ends out r after
+values-back : (r : Boxed) → boxBy (boxValues r) ≡ r
+values-back Done = refl
+values-back BadEnds = refl
+values-back NoRoom = refl
+
+pub values-once : (r s : Boxed) → boxValues r ≡ boxValues s → r ≡ s
+values-once r s e = sym (values-back r) ∙ ap boxBy e ∙ values-back s
+
+module _ (ends : List (List ℤ)) (before : List ℤ) where
+  abbrev pub eight-placed : Outcome Nothing (List ℤ)
+  eight-placed = placed perVertex numbers (boxVertices ends) before
+
+  -- the outcome, by what the test of the ends says
+  pub by-ends : (t : Bool) → goodEnds ends ≡ t → boxOutcome ends before ≡ cond t eight-placed (kept nothing before badNumber)
+  by-ends t g = ap (λ u. cond u eight-placed (kept nothing before badNumber)) g
+
+  pub room-for : (t : Bool) → leb 24 (length before) ≡ t → fits perVertex (boxVertices ends) (length before) ≡ t
+  unfolding mostVertices
+  room-for t e = ap (_&& true) e ∙ and-true t
+
+  pub made-bad : goodEnds ends ≡ false → BoxMade ends before BadEnds before
   unfolding BoxMade
-  made-by r after t u g h e f = (
-    e ∙ sym (ap₂ (λ p q. cond p (cond q (plain 0 8) (plain 6 0)) (plain 9 0)) g h),
-    f ∙ sym (ap₂ (λ p q. cond (p && q) (numbers (boxVertices ends) ++ drop 24 out) out) g h),
-  )
+  made-bad g = sym (by-ends false g)
 
-  pub made-bad : goodEnds ends ≡ false → BoxMade ends out BadEnds out
-  made-bad g = made-by BadEnds out false (leb 24 (length out)) g refl refl refl
+  module _ (g : goodEnds ends ≡ true) where
+    pub made-narrow : length before < 24 → BoxMade ends before NoRoom before
+    unfolding BoxMade
+    made-narrow h =
+        sym (by-ends true g ∙ placed-short perVertex numbers (boxVertices ends) before (room-for false (lt-leb 24 (length before) h)))
 
-  pub made-narrow : goodEnds ends ≡ true → length out < 24 → BoxMade ends out NoRoom out
-  made-narrow g h = made-by NoRoom out true false g (lt-leb 24 (length out) h) refl refl
+    pub made-done : {after : List ℤ} → 24 ≤ length before → after ≡ front (numbers (boxVertices ends)) before → BoxMade ends before Done after
+    unfolding BoxMade
+    made-done h e =
+        ap (boxSays Done) e ∙
+        sym (by-ends true g ∙ placed-fits perVertex numbers (boxVertices ends) before (room-for true (le-leb 24 (length before) h)))
 
-  pub made-done : {after : List ℤ} → goodEnds ends ≡ true → 24 ≤ length out → after ≡ numbers (boxVertices ends) ++ drop 24 out → BoxMade ends out Done after
-  made-done {after} g h e = made-by Done after true true g (le-leb 24 (length out) h) refl e
-
-  pub box-settled : (r s : Boxed) (after last : List ℤ) → BoxMade ends out r after → BoxMade ends out s last → (r ≡ s) × (after ≡ last)
+  pub box-settled : (r s : Boxed) (after last : List ℤ) → BoxMade ends before r after → BoxMade ends before s last → (r ≡ s) × (after ≡ last)
   unfolding BoxMade
-  box-settled r s after last f g = (values-once r s (f .0 ∙ sym (g .0)), f .1 ∙ sym (g .1))
+  box-settled r s after last f g =
+      let same = f ∙ sym g in (values-once r s (ap (λ o. o .values) same), ap (λ o. o .left) same)
 
 -- ---- one axis
 

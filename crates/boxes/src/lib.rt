@@ -1,9 +1,9 @@
 // The list of a box (document 01, "What can be asked"). It relies on `codes` for the crossing to unsigned numbers.
 ghost use mathlib.Core.Path.{_≡_};
-ghost use mathlib.Core.List.{_++_};
 ghost use Prim.Native.Nat.{_≤_};
-ghost use lib.ListN.{length, drop};
+ghost use lib.ListN.{length};
 ghost use Rattle.meaning.specs.Lists.{numbers};
+ghost use Rattle.meaning.specs.Outcomes.{front};
 ghost use Rattle.boxes.specs.Box.{goodEnd, goodEnds, boxVertices, BoxMade};
 use codes::HIGHEST;
 use codes::LOWEST;
@@ -93,7 +93,7 @@ fn eight_corners(ends: [[i16; 2]; 3]) -> [i16; BOX_NUMBERS]
 // Copies a list to the front of another; everything behind it stays.
 fn copy_front(list: &[i16], out: &mut [i16])
     requires { ⌜ length (now list) ≤ length (now out) ⌝ }
-    ensures { λ r. ⌜ now (out .exit) ≡ now (list .entry) ++ drop (length (now (list .entry))) (now (out .entry)) ⌝ }
+    ensures { λ r. ⌜ now (out .exit) ≡ front (now (list .entry)) (now (out .entry)) ⌝ }
 {
     let mut i = 0;
     while i < list.len() {

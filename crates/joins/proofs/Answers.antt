@@ -1,26 +1,28 @@
--- From the one list of an operation to what a join answers.
---   join-settled     two outcomes that the promise allows are equal
---   made, not-made   a list that fits in a result is the promised one; one that does not fit is refused
+-- From the one list of an operation to what a join comes to.
+--   join-settled     two outcomes that the promise allows are equal: the values tell the answers apart
+--   length-numbers   a list has three numbers for each vertex
+--   made, not-made   a list that fits in a result is placed as promised; one that does not fit is refused
 --   joined, no-room, first-refused, second-refused, bad-low, bad-high    the ends of a join
 -- Assumes nothing.
 use mathlib.Core.Path.{_≡_, refl, sym, _∙_, ap, ap₂, subst}
-use mathlib.Core.Bool.{Bool, true, false, _&&_, cond}
-use mathlib.Core.List.{List, _++_, map}
+use mathlib.Core.Bool.{Bool, true, false, _&&_, cond, and-true, and-false}
+use mathlib.Core.List.{List, [], _∷_, _++_, map}
 use mathlib.Core.Option.{none, some}
-use Prim.Native.Nat.{ℕ, _+_, _-_, _*_, _/_, _≤_, _<_, min}
+use Prim.Native.Nat.{ℕ, zero, suc, _+_, _-_, _*_, _/_, _≤_, _<_, min}
 use native.Mathlib.Omega.{arith}
 use lib.Dec.{leb, eqb}
 use lib.IntN.{ℤ}
 use lib.ListN.{length, take, drop, length-map}
-use lib.Seq.{length-take-le}
 use borrow.Author.Tests.{le-leb, lt-leb, leb-true, leb-false, eqb-true, eqb-false, ne-eqb}
 use Rattle.meaning.specs.Numbers.{Corner}
 use Rattle.meaning.specs.Counting.{All}
 use Rattle.meaning.specs.Lists.{vertices, numbers, mostVertices}
 use Rattle.meaning.specs.Operations.{Operation, union, overlap, without, exclusive, operation, joinedList}
-use Rattle.meaning.proofs.Integers.{leb-by}
 use Rattle.meaning.specs.Verdicts.{verdict, passes}
 use Rattle.meaning.specs.declared.Verdict.{Verdict}
+use Rattle.meaning.specs.Outcomes.{Values, Outcome, outcome, Nothing, nothing, done, refused, badOperation, kept, named, checked, perVertex, fits, placed}
+use Rattle.meaning.proofs.Integers.{leb-by}
+use Rattle.meaning.proofs.Outcomes.{verdictBy, verdict-back, checked-next, checked-refused, placed-fits, placed-short}
 use Rattle.codes.specs.Keys.{keyOf, ofKey}
 use Rattle.keys.specs.Parts.{KeyOk}
 use Rattle.keys.proofs.Corners.{keys-ok}
@@ -29,26 +31,51 @@ use Rattle.rising.proofs.Sums.{all-merged, length-merged}
 use Rattle.turn.proofs.Lists.{less-zero, front-of}
 use Rattle.sweep.specs.Room.{Filled, InRoom}
 use Rattle.sweep.proofs.Whole.{Read, part, merged-result, read-room}
-use Rattle.joins.specs.Join.{fitsIn, madeAnswer, madeContents, JoinMade, answerBy, contentsBy}
+use Rattle.joins.specs.Join.{joinValues, joinSays, joinedBy, joinOutcome, JoinMade}
 use Rattle.joins.specs.declared.Joining.{Joining}
 use Rattle.joins.specs.declared.Joining.the-variants.{Done, BadOperation, FirstRefused, SecondRefused, NoRoom}
 
-pub join-settled : {op : ℕ} {a b before : List ℤ} {r s : Joining} {x y : List ℤ} → JoinMade op a b before r x → JoinMade op a b before s y → (r ≡ s) × (x ≡ y)
-join-settled h k = (h .answer ∙ sym (k .answer), h .contents ∙ sym (k .contents))
+-- ---- the values tell the answers apart
+
+-- the answer with these values: the operand names the list that was refused; without one the number decides
+abbrev joiningBy : ℕ → Values → Joining
+joiningBy zero s = cond (eqb (s .number) 0) (Done (s .count)) (cond (eqb (s .number) 6) NoRoom BadOperation)
+joiningBy (suc zero) s = FirstRefused (verdictBy (s .number) (s .place))
+joiningBy (suc (suc n)) s = SecondRefused (verdictBy (s .number) (s .place))
+
+values-back : (r : Joining) → joiningBy (joinValues r .operand) (joinValues r) ≡ r
+values-back (Done n) = refl
+values-back BadOperation = refl
+values-back (FirstRefused v) = ap FirstRefused (verdict-back v)
+values-back (SecondRefused v) = ap SecondRefused (verdict-back v)
+values-back NoRoom = refl
+
+pub join-settled : (op : ℕ) (a b before : List ℤ) (r s : Joining) (x y : List ℤ)
+    → JoinMade op a b before r x → JoinMade op a b before s y → (r ≡ s) × (x ≡ y)
+unfolding JoinMade
+join-settled op a b before r s x y h k =
+    let e : joinSays r x ≡ joinSays s y = h ∙ sym k in
+    (sym (values-back r) ∙ ap (λ o. joiningBy (o .values .operand) (o .values)) e ∙ values-back s, ap (λ o. o .left) e)
 
 -- ---- room
 
-pub triple-room : {n room : ℕ} → n ≡ min mostVertices (room / 3) → (n ≤ 1024) × (3 * n ≤ room)
-unfolding mostVertices
+pub triple-room : {n room : ℕ} → n ≡ min mostVertices (room / 3) → (n ≤ mostVertices) × (3 * n ≤ room)
 triple-room e = (omega arith, omega arith)
 
+pub length-numbers : (l : List Corner) → length (numbers l) ≡ 3 * length l
+length-numbers [] = refl
+length-numbers (v ∷ l) = omega (arith, length-numbers l)
+
 -- room for as many as fit is room for the list
-as-fits : (l : List Corner) (room most : ℕ) → most ≡ min mostVertices (room / 3) → leb (length l) most ≡ fitsIn l room
+as-fits : (l : List Corner) (room most : ℕ) → most ≡ min mostVertices (room / 3) → leb (length l) most ≡ fits perVertex l room
 as-fits l room most e = go (leb (length l) mostVertices) refl
   where
-    go : (t : Bool) → leb (length l) mostVertices ≡ t → leb (length l) most ≡ (t && leb (3 * length l) room)
-    go true f = let h = leb-true (length l) mostVertices f in leb-by (length l) most (3 * length l) room (λ u. omega arith) (λ u. omega arith)
-    go false f = lt-leb (length l) most (omega (arith, leb-false (length l) mostVertices f))
+    go : (t : Bool) → leb (length l) mostVertices ≡ t → leb (length l) most ≡ (leb (3 * length l) room && t)
+    go true f =
+        let h = leb-true (length l) mostVertices f in
+        leb-by (length l) most (3 * length l) room (λ u. omega arith) (λ u. omega arith) ∙ sym (and-true (leb (3 * length l) room))
+    go false f =
+        lt-leb (length l) most (omega (arith, leb-false (length l) mostVertices f)) ∙ sym (and-false (leb (3 * length l) room))
 
 module _ {l : List Corner} {most r : ℕ} {before after : List ℤ} (f : Filled l most before r after) where
   -- the list fits where the answer is no more than there is room for
@@ -67,20 +94,17 @@ module _ {l : List Corner} {most r : ℕ} {before after : List ℤ} (f : Filled 
       go false t = leb-false (length l) most t
 
   module _ (e : most ≡ min mostVertices (length before / 3)) where
-    pub made : r ≤ most → (Done r ≡ madeAnswer l (length before)) × (after ≡ madeContents l before)
+    pub made : r ≤ most → joinSays (Done r) after ≡ placed perVertex numbers l before
     made h =
         let u = f .fits (fits-by h) in
-        let g = sym (as-fits l (length before) most e) ∙ le-leb (length l) most (fits-by h) in (
-          ap Done (u .0) ∙ sym (ap (λ t. cond t (Done (length l)) NoRoom) g),
-          u .1 ∙ sym (ap (λ t. cond t (numbers l ++ drop (3 * length l) before) before) g),
-        )
+        let g = sym (as-fits l (length before) most e) ∙ le-leb (length l) most (fits-by h) in
+        ap₂ (λ n x. outcome (done n) nothing x) (u .0) (u .1 ∙ ap (λ n. numbers l ++ drop n before) (sym (length-numbers l))) ∙
+        sym (placed-fits perVertex numbers l before g)
 
-    pub not-made : most < r → (NoRoom ≡ madeAnswer l (length before)) × (after ≡ madeContents l before)
+    pub not-made : most < r → joinSays NoRoom after ≡ placed perVertex numbers l before
     not-made h =
-        let g = sym (as-fits l (length before) most e) ∙ lt-leb (length l) most (short-by h) in (
-          sym (ap (λ t. cond t (Done (length l)) NoRoom) g),
-          f .short (short-by h) .1 ∙ sym (ap (λ t. cond t (numbers l ++ drop (3 * length l) before) before) g),
-        )
+        let g = sym (as-fits l (length before) most e) ∙ lt-leb (length l) most (short-by h) in
+        ap (joinSays NoRoom) (f .short (short-by h) .1) ∙ sym (placed-short perVertex numbers l before g)
 
   -- first in small room: a list that fits there fits; one that does not leaves all as it was
   pub small-fits : {more : ℕ} → most ≤ more → r ≤ most → Filled l more before r after
@@ -163,53 +187,57 @@ op-some op h k = go (eqb op 1) refl (eqb op 2) refl (eqb op 3) refl
         by 4 exclusive refl (omega arith)
 
 module _ (op : ℕ) (a b before : List ℤ) where
+  unnamed : operation op ≡ none → JoinMade op a b before BadOperation before
+  unfolding JoinMade
+  unnamed e = sym (ap (λ x. named x (kept nothing before badOperation) (joinedBy a b before)) e)
+
   pub bad-low : op < 1 → JoinMade op a b before BadOperation before
-  bad-low h =
-      let e = op-none op (λ q. omega arith) (λ q. omega arith) (λ q. omega arith) (λ q. omega arith) in
-      record { answer = sym (ap (λ x. answerBy x a b (length before)) e); contents = sym (ap (λ x. contentsBy x a b before) e) }
+  bad-low h = unnamed (op-none op (λ q. omega arith) (λ q. omega arith) (λ q. omega arith) (λ q. omega arith))
 
   pub bad-high : 4 < op → JoinMade op a b before BadOperation before
-  bad-high h =
-      let e = op-none op (λ q. omega arith) (λ q. omega arith) (λ q. omega arith) (λ q. omega arith) in
-      record { answer = sym (ap (λ x. answerBy x a b (length before)) e); contents = sym (ap (λ x. contentsBy x a b before) e) }
+  bad-high h = unnamed (op-none op (λ q. omega arith) (λ q. omega arith) (λ q. omega arith) (λ q. omega arith))
+
+  -- what a join comes to, by the operation, and then by the two lists
+  module _ (o : Operation) (is : operation op ≡ some o) where
+    pub by-operation : joinOutcome op a b before ≡ joinedBy a b before o
+    by-operation = ap (λ x. named x (kept nothing before badOperation) (joinedBy a b before)) is
+
+    abbrev after-first : Outcome Nothing (List ℤ)
+    after-first = checked 2 (verdict b) (kept nothing before) (placed perVertex numbers (joinedList o a b) before)
+
+    pub by-first : passes (verdict a) ≡ false → joinOutcome op a b before ≡ kept nothing before (refused 1 (verdict a))
+    by-first g = by-operation ∙ checked-refused 1 (verdict a) (kept nothing before) after-first g
+
+    module _ (ga : passes (verdict a) ≡ true) where
+      passed-first : joinOutcome op a b before ≡ after-first
+      passed-first = by-operation ∙ checked-next 1 (verdict a) (kept nothing before) after-first ga
+
+      pub by-second : passes (verdict b) ≡ false → joinOutcome op a b before ≡ kept nothing before (refused 2 (verdict b))
+      by-second g = passed-first ∙ checked-refused 2 (verdict b) (kept nothing before) (placed perVertex numbers (joinedList o a b) before) g
+
+      pub by-list : passes (verdict b) ≡ true → joinOutcome op a b before ≡ placed perVertex numbers (joinedList o a b) before
+      by-list g = passed-first ∙ checked-next 2 (verdict b) (kept nothing before) (placed perVertex numbers (joinedList o a b) before) g
 
   module _ (low : 1 ≤ op) (high : op ≤ 4) where
     pub first-refused : (v : Verdict) → v ≡ verdict a → passes v ≡ false → JoinMade op a b before (FirstRefused v) before
+    unfolding JoinMade
     first-refused v e f =
         let (o, is) = op-some op low high in
-        let g : passes (verdict a) ≡ false = ap passes (sym e) ∙ f in
-        record {
-          answer = ap FirstRefused e ∙ sym (ap (λ x. answerBy x a b (length before)) is ∙ ap
-              (λ t. cond t (cond (passes (verdict b)) (madeAnswer (joinedList o a b) (length before)) (SecondRefused (verdict b)))
-              (FirstRefused (verdict a))) g);
-          contents = sym (ap (λ x. contentsBy x a b before) is ∙ ap (λ t. cond (t && passes (verdict b)) (madeContents (joinedList o a b) before) before) g);
-        }
+        ap (λ w. joinSays (FirstRefused w) before) e ∙ sym (by-first o is (ap passes (sym e) ∙ f))
 
     module _ (ga : passes (verdict a) ≡ true) where
       pub second-refused : (v : Verdict) → v ≡ verdict b → passes v ≡ false → JoinMade op a b before (SecondRefused v) before
+      unfolding JoinMade
       second-refused v e f =
           let (o, is) = op-some op low high in
-          let g : passes (verdict b) ≡ false = ap passes (sym e) ∙ f in
-          record {
-            answer = ap SecondRefused e ∙ sym (ap (λ x. answerBy x a b (length before)) is ∙ ap₂
-                (λ s t. cond s (cond t (madeAnswer (joinedList o a b) (length before)) (SecondRefused (verdict b))) (FirstRefused (verdict a))) ga g);
-            contents = sym (ap (λ x. contentsBy x a b before) is ∙ ap₂ (λ s t. cond (s && t) (madeContents (joinedList o a b) before) before) ga g);
-          }
+          ap (λ w. joinSays (SecondRefused w) before) e ∙ sym (by-second o is ga (ap passes (sym e) ∙ f))
 
-      module _ (gb : passes (verdict b) ≡ true) where
-        joined-by : (o : Operation) → operation op ≡ some o → (r : Joining) (after : List ℤ) → (r ≡ madeAnswer (joinedList o a b) (length before)) ×
-            (after ≡ madeContents (joinedList o a b) before)
-            → JoinMade op a b before r after
-        joined-by o is r after m =
-            record {
-              answer = m .0 ∙ sym (ap (λ x. answerBy x a b (length before)) is ∙ ap₂
-                  (λ s t. cond s (cond t (madeAnswer (joinedList o a b) (length before)) (SecondRefused (verdict b))) (FirstRefused (verdict a))) ga gb);
-              contents = m .1 ∙ sym (ap (λ x. contentsBy x a b before) is ∙ ap₂ (λ s t. cond (s && t) (madeContents (joinedList o a b) before) before) ga gb);
-            }
+      module _ (gb : passes (verdict b) ≡ true) {most r : ℕ} {after : List ℤ} (e : most ≡ min mostVertices (length before / 3))
+          (f : InRoom op a b most before r after) where
+        pub joined : r ≤ most → JoinMade op a b before (Done r) after
+        unfolding JoinMade
+        joined h = let (o, is) = op-some op low high in made (f o is) e h ∙ sym (by-list o is ga gb)
 
-        module _ {most r : ℕ} {after : List ℤ} (e : most ≡ min mostVertices (length before / 3)) (f : InRoom op a b most before r after) where
-          pub joined : r ≤ most → JoinMade op a b before (Done r) after
-          joined h = let (o, is) = op-some op low high in joined-by o is (Done r) after (made (f o is) e h)
-
-          pub no-room : most < r → JoinMade op a b before NoRoom after
-          no-room h = let (o, is) = op-some op low high in joined-by o is NoRoom after (not-made (f o is) e h)
+        pub no-room : most < r → JoinMade op a b before NoRoom after
+        unfolding JoinMade
+        no-room h = let (o, is) = op-some op low high in not-made (f o is) e h ∙ sym (by-list o is ga gb)

@@ -52,7 +52,7 @@ fn fitting(numbers: usize) -> usize
 fn join_small(op: u32, a: &[i16], b: &[i16], most: usize, out: &mut [i16]) -> usize
     requires { ⌜ Valid (vertices (now a)) × Valid (vertices (now b)) ⌝ }
     requires { ⌜ (length (vertices (now a)) ≤ 32) × (length (vertices (now b)) ≤ 32) ⌝ }
-    requires { ⌜ (32 ≤ most) × (most ≤ 1024) × (3 * most ≤ length (now out)) ⌝ }
+    requires { ⌜ (32 ≤ most) × (most ≤ mostVertices) × (3 * most ≤ length (now out)) ⌝ }
     ensures { λ r. ⌜ InRoom op (now (a .entry)) (now (b .entry)) most (now (out .entry)) r (now (out .exit)) ⌝ }
 {
     let count = sweep::join_few(op, a, b, FEW, out);
@@ -65,7 +65,7 @@ fn join_small(op: u32, a: &[i16], b: &[i16], most: usize, out: &mut [i16]) -> us
 // Joins two valid lists by the sweep where there is room for most vertices.
 fn join_by_sweep(op: u32, a: &[i16], b: &[i16], most: usize, out: &mut [i16]) -> usize
     requires { ⌜ Valid (vertices (now a)) × Valid (vertices (now b)) ⌝ }
-    requires { ⌜ (most ≤ 1024) × (3 * most ≤ length (now out)) ⌝ }
+    requires { ⌜ (most ≤ mostVertices) × (3 * most ≤ length (now out)) ⌝ }
     ensures { λ r. ⌜ InRoom op (now (a .entry)) (now (b .entry)) most (now (out .entry)) r (now (out .exit)) ⌝ }
 {
     if NUMBERS * FEW < a.len() {
@@ -84,7 +84,9 @@ fn join_by_sweep(op: u32, a: &[i16], b: &[i16], most: usize, out: &mut [i16]) ->
 fn join_by_merge(a: &[i16], b: &[i16], most: usize, out: &mut [i16]) -> usize
     requires { ⌜ Valid (vertices (now a)) × Valid (vertices (now b)) ⌝ }
     requires { ⌜ 3 * most ≤ length (now out) ⌝ }
-    ensures { λ r. ⌜ Filled (joinedList exclusive (now (a .entry)) (now (b .entry))) most (now (out .entry)) r (now (out .exit)) ⌝ }
+    ensures { λ r. ⌜
+        Filled (joinedList exclusive (now (a .entry)) (now (b .entry))) most (now (out .entry)) r (now (out .exit))
+        ⌝ }
 {
     let mut ka = [0u32; MOST_VERTICES];
     let mut kb = [0u32; MOST_VERTICES];
@@ -103,7 +105,7 @@ fn join_by_merge(a: &[i16], b: &[i16], most: usize, out: &mut [i16]) -> usize
 // that is more.
 fn join_valid(op: u32, a: &[i16], b: &[i16], most: usize, out: &mut [i16]) -> usize
     requires { ⌜ Valid (vertices (now a)) × Valid (vertices (now b)) ⌝ }
-    requires { ⌜ (most ≤ 1024) × (3 * most ≤ length (now out)) ⌝ }
+    requires { ⌜ (most ≤ mostVertices) × (3 * most ≤ length (now out)) ⌝ }
     ensures { λ r. ⌜ InRoom op (now (a .entry)) (now (b .entry)) most (now (out .entry)) r (now (out .exit)) ⌝ }
 {
     if op == EXCLUSIVE {

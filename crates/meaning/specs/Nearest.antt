@@ -3,6 +3,7 @@
 --   lower                   lowest focus, then first shift, then second
 --   Nearest                 permitted; no permitted cell nearer; among equals none lower
 --   Reached, nowhere        what nearest gives: a cell and how far it is; what a refused nearest gives
+--   IsNearest               the nearest cell of a map, if it permits any
 --   nearestOutcome          what nearest comes to: 1 to 5; then 7 of the empty list; else the cell, which is the nearest, and its distance
 use mathlib.Core.Path.{_≡_}
 use mathlib.Core.Bool.{Bool, true, false}
@@ -10,8 +11,8 @@ use mathlib.Core.List.{List, [], _∷_}
 use Prim.Native.Nat.{ℕ, _+_, _*_, _≤_}
 use lib.IntN.{ℤ, pos, _-ℤ_, natAbs}
 use Rattle.meaning.specs.Numbers.{Axis, focus, first, second, Cell, Corner, cell, codeOn}
-use Rattle.meaning.specs.Lists.{vertices, earlier}
-use Rattle.meaning.specs.Verdicts.{verdict}
+use Rattle.meaning.specs.Lists.{vertices, permitted, earlier}
+use Rattle.meaning.specs.Verdicts.{verdict, passes}
 use Rattle.meaning.specs.Outcomes.{Outcome, outcome, Nothing, nothing, done, emptyMap, kept, checked}
 
 abbrev pub gap : ℤ → ℤ → ℕ
@@ -54,6 +55,10 @@ nowhere = reached (cell (pos 0) (pos 0) (pos 0)) 0
 abbrev pub nearestOf : List Corner → Cell → Cell → Outcome Reached Nothing
 nearestOf [] w c = kept nowhere nothing emptyMap
 nearestOf (v ∷ l) w c = outcome (done 0) (reached c (distance w c)) nothing
+
+-- c is the nearest cell to the wish, if the list is a map and permits any cell
+abbrev pub IsNearest : List ℤ → Cell → Cell → Type 0
+IsNearest ns w c = passes (verdict ns) ≡ true → (d : Cell) → permitted (vertices ns) d ≡ true → Nearest (permitted (vertices ns)) w c
 
 abbrev pub nearestOutcome : List ℤ → Cell → Cell → Outcome Reached Nothing
 nearestOutcome ns w c = checked 1 (verdict ns) (kept nowhere nothing) (nearestOf (vertices ns) w c)

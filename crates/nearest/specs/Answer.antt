@@ -2,14 +2,11 @@
 --   foundValues, foundReached, foundSays    document 01's values of each case of the answer; the cell and the distance that it gives; what it comes to
 --   Answered                                the promise, over the list, the wish and the answer
 use mathlib.Core.Path.{_≡_}
-use mathlib.Core.Bool.{true}
 use mathlib.Core.List.{List}
 use lib.IntN.{ℤ}
 use Rattle.meaning.specs.Numbers.{Cell, cell}
-use Rattle.meaning.specs.Lists.{vertices, permitted}
-use Rattle.meaning.specs.Verdicts.{verdict, passes}
 use Rattle.meaning.specs.Outcomes.{Values, Outcome, outcome, Nothing, nothing, done, emptyMap, refused}
-use Rattle.meaning.specs.Nearest.{Nearest, Reached, reached, nowhere, nearestOutcome}
+use Rattle.meaning.specs.Nearest.{Reached, reached, nowhere, IsNearest, nearestOutcome}
 use Rattle.nearest.specs.declared.Found.{Found}
 use Rattle.nearest.specs.declared.Found.the-variants.{At, Empty, Refused}
 
@@ -29,5 +26,5 @@ foundSays r = outcome (foundValues r) (foundReached r) nothing
 -- a cell that is the nearest, if the list is a map that permits any; and what nearest comes to with it
 pub record Answered (ns : List ℤ) (w : Cell) (r : Found) : Type 0 where
   pub at : Cell
-  pub nearest : passes (verdict ns) ≡ true → (d : Cell) → permitted (vertices ns) d ≡ true → Nearest (permitted (vertices ns)) w at
+  pub nearest : IsNearest ns w at
   pub is : foundSays r ≡ nearestOutcome ns w at

@@ -1,61 +1,70 @@
--- How an answer is packed into one number (document 01, "Why a call comes back").
---   packed                            number in bits 56 to 63, operand 48 to 55, place 32 to 47, second count 16 to 31, count 0 to 15
---   packedValues                      the values of an answer with one count
---   packedRefusal, packedVerdict      the verdict on a list
---   packedCell                        the cell query: the values of its answer, and 1 as the count for yes
---   packedCorner                      the corner report: mask in bits 0 to 7, how many in 8 to 15, kind in 16 to 23, beside the list's refusal
---   packedPart                        the plane query: where the part starts in bits 32 to 63, its length in bits 0 to 31; 0 where it is empty
---   packedSplit                       the split: the values of its answer, the upper half's count as the second
---   twosComplement, packedNearest     nearest: the number in bits 48 to 63, then the 16 bits of each code, focus highest
---   packedDistance                    the distance to the nearest cell: the values of its answer, and the distance in bits 0 to 31
-use mathlib.Core.Bool.{cond}
-use Prim.Native.Nat.{ℕ, _+_, _*_, _-_, _^_}
+-- How an answer is packed into one number (document 01, "Why a call comes back"; docs/DECISIONS.md, 34), and how it is read back, as
+-- include/travelmap.h does.
+--   packed                      number in bits 56 to 63, operand 48 to 55, place 32 to 47, second count 16 to 31, count 0 to 15
+--   packedValues                what every answer carries
+--   packedCell                  the cell query: beside it yes or no, in bit 0
+--   packedCorner                the corner report: beside it the mask in bits 0 to 7, how many in 8 to 15, the kind in 16 to 23
+--   packedPart                  the plane query: where the part starts in bits 32 to 63, its length in bits 0 to 31; 0 where it is empty
+--   packedNearest               nearest: beside it the 16 bits of each code, focus in bits 32 to 47, first shift in 16 to 31, second in 0 to 15
+--   packedDistance              the distance to the nearest cell: beside it the distance in bits 0 to 31
+--   Few                         values whose place and counts are those of lists that are not too long
+--   bits                        so many bits of a number, from a place up
+--   Reads, ReadsCounts          a number from which the number, the operand and the place are read; and the counts
+use mathlib.Core.Path.{_≡_}
+use mathlib.Core.Bool.{Bool, cond}
+use Prim.Native.Nat.{ℕ, _+_, _*_, _-_, _/_, _%_, _^_, _≤_}
 use lib.Dec.{eqb}
-use lib.IntN.{ℤ, pos, negsuc}
-use Rattle.meaning.specs.Verdicts.{passes, refusalNumber, refusalPlace}
-use Rattle.meaning.specs.declared.Verdict.{Verdict}
-use Rattle.meaning.specs.Values.{Values}
-use Rattle.asks.specs.Asks.{cellValues}
-use Rattle.asks.specs.declared.CellAnswer.{CellAnswer}
-use Rattle.asks.specs.declared.CornerAnswer.{CornerAnswer}
+use Rattle.meaning.specs.Lists.{mostVertices}
+use Rattle.meaning.specs.Numbers.{Cell}
+use Rattle.meaning.specs.Nearest.{Reached}
+use Rattle.meaning.specs.Outcomes.{Values, Outcome, Nothing}
+use Rattle.meaning.specs.Kinds.{bit}
+use Rattle.words.specs.Words.{word}
+use Rattle.asks.specs.Asks.{Report}
 use Rattle.asks.specs.declared.Ends.{Ends}
-use Rattle.cuts.specs.Answers.{SplitValues}
-use Rattle.nearest.specs.Answer.{Outcome}
+
+-- ---- packed
 
 abbrev pub packed : ℕ → ℕ → ℕ → ℕ → ℕ → ℕ
 packed number operand place second count = number * 2 ^ 56 + operand * 2 ^ 48 + place * 2 ^ 32 + second * 2 ^ 16 + count
 
 abbrev pub packedValues : Values → ℕ
-packedValues v = packed (v .number) (v .operand) (v .place) 0 (v .count)
+packedValues v = packed (v .number) (v .operand) (v .place) (v .second) (v .count)
 
--- the refusal of the list that is this operand
-abbrev pub packedRefusal : ℕ → Verdict → ℕ
-packedRefusal operand v = packed (refusalNumber v) operand (refusalPlace v) 0 0
+abbrev pub packedCell : Outcome Bool Nothing → ℕ
+packedCell o = packedValues (o .values) + bit (o .given)
 
--- where there is one list: 0 for a valid one
-abbrev pub packedVerdict : Verdict → ℕ
-packedVerdict v = cond (passes v) 0 (packedRefusal 1 v)
+abbrev pub packedReport : Report → ℕ
+packedReport r = r .kind * 2 ^ 16 + r .howMany * 2 ^ 8 + r .mask
 
-abbrev pub packedCell : CellAnswer → ℕ
-packedCell a = packed (cellValues a .number) (cellValues a .operand) (cellValues a .place) 0 (cond (cellValues a .yes) 1 0)
-
-abbrev pub packedCorner : CornerAnswer → ℕ
-packedCorner a =
-    packedVerdict (a .verdict) + (a .kind * 2 ^ 16 + a .«how_many» * 2 ^ 8 + a .mask)
+abbrev pub packedCorner : Outcome Report Nothing → ℕ
+packedCorner o = packedValues (o .values) + packedReport (o .given)
 
 abbrev pub packedPart : Ends → ℕ
 packedPart e = cond (eqb (e .start) (e .end)) 0 (e .start * 2 ^ 32 + (e .end - e .start))
 
-abbrev pub packedSplit : SplitValues → ℕ
-packedSplit v = packed (v .number) (v .operand) (v .place) (v .highCount) (v .lowCount)
+abbrev pub packedCodes : Cell → ℕ
+packedCodes c = word (c .focus) * 2 ^ 32 + word (c .first) * 2 ^ 16 + word (c .second)
 
--- the 16 bits of a signed number
-abbrev pub twosComplement : ℤ → ℕ
-twosComplement (pos n) = n
-twosComplement (negsuc n) = 65535 - n
+abbrev pub packedNearest : Outcome Reached Nothing → ℕ
+packedNearest o = packedValues (o .values) + packedCodes (o .given .at)
 
-abbrev pub packedNearest : Outcome → ℕ
-packedNearest o = packed 0 (o .number) (twosComplement (o .at .focus)) (twosComplement (o .at .first)) (twosComplement (o .at .second))
+abbrev pub packedDistance : Outcome Reached Nothing → ℕ
+packedDistance o = packedValues (o .values) + o .given .far
 
-abbrev pub packedDistance : Outcome → ℕ
-packedDistance o = packed (o .number) (o .operand) (o .place) 0 0 + o .far
+abbrev pub Few : Values → Type 0
+Few v = (v .place ≤ mostVertices) × (v .count ≤ mostVertices) × (v .second ≤ mostVertices)
+
+-- ---- read back
+
+abbrev pub bits : ℕ → ℕ → ℕ → ℕ
+bits many from x = x / 2 ^ from % 2 ^ many
+
+pub record Reads (x : ℕ) (v : Values) : Type 0 where
+  pub number-at : bits 8 56 x ≡ v .number
+  pub operand-at : bits 8 48 x ≡ v .operand
+  pub place-at : bits 16 32 x ≡ v .place
+
+pub record ReadsCounts (x : ℕ) (v : Values) : Type 0 where
+  pub second-at : bits 16 16 x ≡ v .second
+  pub count-at : bits 16 0 x ≡ v .count

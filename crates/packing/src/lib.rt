@@ -1,15 +1,17 @@
 // Inner: the answers of the library's functions, each packed into one number with document 01's values. It relies on the crates of the answers for
-// their types, and on `codes` for signs.
+// their types, and on `words` for signed numbers.
 ghost use mathlib.Core.Path.{_≡_};
 ghost use Prim.Native.Nat.{_*_, _≤_};
 ghost use Rattle.meaning.specs.Lists.{mostVertices};
 ghost use Rattle.meaning.specs.Verdicts.{refusalNumber, refusalPlace};
-ghost use Rattle.boxes.specs.Box.{valuesOf};
-ghost use Rattle.asks.specs.Asks.{cellValues};
+ghost use Rattle.meaning.specs.Outcomes.{refused, verdictValues};
+ghost use Rattle.boxes.specs.Box.{boxValues};
+ghost use Rattle.asks.specs.Asks.{cellValues, cellSays, cornerSays};
 ghost use Rattle.joins.specs.Join.{joinValues};
 ghost use Rattle.cuts.specs.Answers.{sectionValues, splitValues};
-ghost use Rattle.nearest.specs.Answer.{outcome};
-ghost use Rattle.packing.specs.Packed.{packed, packedRefusal, packedVerdict, packedCell, packedCorner, packedPart, packedValues, packedSplit, twosComplement, packedNearest, packedDistance};
+ghost use Rattle.nearest.specs.Answer.{foundValues, foundSays};
+ghost use Rattle.packing.specs.Packed.{Few, packed, packedValues, packedCell, packedCorner, packedPart};
+ghost use Rattle.packing.specs.Packed.{packedNearest, packedDistance};
 use asks::CellAnswer;
 use asks::CornerAnswer;
 use asks::Ends;
@@ -20,16 +22,17 @@ use joins::Joining;
 use meaning::Verdict;
 use nearest::Found;
 
-// What one of a value's units weighs in the packed number.
-const NUMBER: u64 = 72057594037927936;
+// Where each value of an answer begins in the packed number.
+const NUMBER: u64 = 1 << 56;
 
-const OPERAND: u64 = 281474976710656;
+const OPERAND: u64 = 1 << 48;
 
-const PLACE: u64 = 4294967296;
+const PLACE: u64 = 1 << 32;
 
-const SECOND: u64 = 65536;
+const SECOND: u64 = 1 << 16;
 
-const HOW_MANY: u16 = 256;
+// Where how many cells are permitted begins in the corner report.
+const HOW_MANY: u16 = 1 << 8;
 
 // The numbers of answers (document 01, "Why a call comes back") that are packed here.
 const DONE: u8 = 0;
@@ -57,11 +60,6 @@ const YES: u64 = 1;
 
 // The vertices of a box.
 const BOX_VERTICES: u16 = 8;
-
-// How far `codes` lifts a number, and how many numbers have 16 bits.
-const LIFT: u32 = 32768;
-
-const NUMBERS: u32 = 65536;
 
 // The values of an answer as one number.
 fn pack(number: u8, operand: u8, place: u16, second: u16, count: u16) -> u64
@@ -105,7 +103,7 @@ fn place_of(verdict: Verdict) -> usize
 // The refusal of the list that is this operand.
 fn pack_refusal(verdict: Verdict, operand: u8) -> u64
     requires { ⌜ refusalPlace verdict ≤ mostVertices ⌝ }
-    ensures { λ r. ⌜ r ≡ packedRefusal operand verdict ⌝ }
+    ensures { λ r. ⌜ r ≡ packedValues (refused operand verdict) ⌝ }
 {
     pack(number_of(verdict), operand, place_of(verdict) as u16, 0, 0)
 }
@@ -113,7 +111,7 @@ fn pack_refusal(verdict: Verdict, operand: u8) -> u64
 // The verdict on the one list.
 pub fn pack_verdict(verdict: Verdict) -> u64
     requires { ⌜ refusalPlace verdict ≤ mostVertices ⌝ }
-    ensures { λ r. ⌜ r ≡ packedVerdict verdict ⌝ }
+    ensures { λ r. ⌜ r ≡ packedValues (verdictValues verdict) ⌝ }
 {
     if number_of(verdict) == DONE {
         return 0;
@@ -123,8 +121,8 @@ pub fn pack_verdict(verdict: Verdict) -> u64
 
 // The answer of the cell query.
 pub fn pack_cell(answer: CellAnswer) -> u64
-    requires { ⌜ cellValues answer .place ≤ mostVertices ⌝ }
-    ensures { λ r. ⌜ r ≡ packedCell answer ⌝ }
+    requires { ⌜ Few (cellValues answer) ⌝ }
+    ensures { λ r. ⌜ r ≡ packedCell (cellSays answer) ⌝ }
 {
     match answer {
         CellAnswer::Yes => YES,
@@ -136,7 +134,7 @@ pub fn pack_cell(answer: CellAnswer) -> u64
 // The corner report.
 pub fn pack_corner(answer: CornerAnswer) -> u64
     requires { ⌜ (refusalPlace (answer .verdict) ≤ mostVertices) × (answer .«how_many» ≤ 8) ⌝ }
-    ensures { λ r. ⌜ r ≡ packedCorner answer ⌝ }
+    ensures { λ r. ⌜ r ≡ packedCorner (cornerSays answer) ⌝ }
 {
     let verdict = answer.verdict;
     let cells = answer.how_many as u16 * HOW_MANY + answer.mask as u16;
@@ -158,7 +156,7 @@ pub fn pack_part(ends: Ends) -> u64
 
 // The answer of making a box.
 pub fn pack_box(answer: Boxed) -> u64
-    ensures { λ r. ⌜ r ≡ packedValues (valuesOf answer) ⌝ }
+    ensures { λ r. ⌜ r ≡ packedValues (boxValues answer) ⌝ }
 {
     match answer {
         Boxed::Done => pack(DONE, 0, 0, 0, BOX_VERTICES),
@@ -169,7 +167,7 @@ pub fn pack_box(answer: Boxed) -> u64
 
 // The answer of a join.
 pub fn pack_join(answer: Joining) -> u64
-    requires { ⌜ (joinValues answer .place ≤ mostVertices) × (joinValues answer .count ≤ mostVertices) ⌝ }
+    requires { ⌜ Few (joinValues answer) ⌝ }
     ensures { λ r. ⌜ r ≡ packedValues (joinValues answer) ⌝ }
 {
     match answer {
@@ -183,7 +181,7 @@ pub fn pack_join(answer: Joining) -> u64
 
 // The answer of a section.
 pub fn pack_section(answer: Sectioned) -> u64
-    requires { ⌜ (sectionValues answer .place ≤ mostVertices) × (sectionValues answer .count ≤ mostVertices) ⌝ }
+    requires { ⌜ Few (sectionValues answer) ⌝ }
     ensures { λ r. ⌜ r ≡ packedValues (sectionValues answer) ⌝ }
 {
     match answer {
@@ -196,8 +194,8 @@ pub fn pack_section(answer: Sectioned) -> u64
 
 // The answer of a split.
 pub fn pack_split(answer: Halved) -> u64
-    requires { ⌜ (splitValues answer .place ≤ mostVertices) × (splitValues answer .lowCount ≤ mostVertices) × (splitValues answer .highCount ≤ mostVertices) ⌝ }
-    ensures { λ r. ⌜ r ≡ packedSplit (splitValues answer) ⌝ }
+    requires { ⌜ Few (splitValues answer) ⌝ }
+    ensures { λ r. ⌜ r ≡ packedValues (splitValues answer) ⌝ }
 {
     match answer {
         Halved::Done(lower, upper) => pack(DONE, 0, 0, upper as u16, lower as u16),
@@ -208,30 +206,28 @@ pub fn pack_split(answer: Halved) -> u64
     }
 }
 
-// A number's 16 bits in two's complement.
-fn bits_of(number: i16) -> u16
-    ensures { λ r. ⌜ r ≡ twosComplement number ⌝ }
-{
-    ((codes::lift(number) as u32 + LIFT) % NUMBERS) as u16
-}
-
-// The nearest cell: the number above its three codes.
+// The nearest cell: its three codes, or why there is none.
 pub fn pack_nearest(found: Found) -> u64
-    ensures { λ r. ⌜ r ≡ packedNearest (outcome found) ⌝ }
+    requires { ⌜ Few (foundValues found) ⌝ }
+    ensures { λ r. ⌜ r ≡ packedNearest (foundSays found) ⌝ }
 {
     match found {
-        Found::At(focus, first, second, _) => {
-            pack(0, DONE, bits_of(focus), bits_of(first), bits_of(second))
-        }
-        Found::Empty => pack(0, EMPTY, 0, 0, 0),
-        Found::Refused(verdict) => pack(0, number_of(verdict), 0, 0, 0),
+        Found::At(focus, first, second, _) => pack(
+            DONE,
+            0,
+            words::word(focus),
+            words::word(first),
+            words::word(second),
+        ),
+        Found::Empty => pack(EMPTY, 0, 0, 0, 0),
+        Found::Refused(verdict) => pack_refusal(verdict, ONE_LIST),
     }
 }
 
 // The distance to the nearest cell.
 pub fn pack_distance(found: Found) -> u64
-    requires { ⌜ outcome found .place ≤ mostVertices ⌝ }
-    ensures { λ r. ⌜ r ≡ packedDistance (outcome found) ⌝ }
+    requires { ⌜ Few (foundValues found) ⌝ }
+    ensures { λ r. ⌜ r ≡ packedDistance (foundSays found) ⌝ }
 {
     match found {
         Found::At(_, _, _, distance) => distance as u64,

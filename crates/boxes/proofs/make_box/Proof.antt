@@ -1,9 +1,8 @@
 -- `boxes::make_box` meets its contract: the ends, then the room, then the eight corners at the front.
 use mathlib.Core.Path.{_∙_, ap}
-use mathlib.Core.List.{_++_}
 use borrow.Author.Needs.{needs}
 use denote.Ref.{now}
-use lib.ListN.{length, drop}
+use Rattle.meaning.specs.Outcomes.{front}
 use Rattle.meaning.proofs.Flags.{said-no, said-yes}
 use Rattle.boxes.proofs.Boxes.{made-bad, made-narrow, made-done}
 use Rattle.boxes.proofs.make_box.Statement.{statement}
@@ -39,7 +38,7 @@ returns-3 c =
     let w = c .before .before .before .before in
     let k = w .before .before .before in
     made-done (k .before .args .ends) (now (k .before .args .out)) (said-yes (k .good-ends .ensures) (w .before .before .if1 .left)) (w .before .if2 .left)
-    (c .before .copy-front .ensures ∙ ap (λ l. l ++ drop (length l) (now (k .before .args .out))) (w .eight-corners .ensures))
+    (c .before .copy-front .ensures ∙ ap (λ l. front l (now (k .before .args .out))) (w .eight-corners .ensures))
 
 pub make-box-spec : {M : Type 1} → statement M
 make-box-spec =

@@ -1,6 +1,6 @@
+-- `joins::fitting` meets its contract: the room in whole vertices, at most as many as a list may have.
 use native.Mathlib.Omega.{arith}
 use Rattle.meaning.specs.Lists.{mostVertices}
-use borrow.Author.Needs.{needs}
 use Rattle.joins.proofs.fitting.Statement.{statement}
 use Rattle.joins.proofs.fitting.Tie as tie
 

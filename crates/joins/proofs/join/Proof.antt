@@ -5,6 +5,7 @@ use mathlib.Core.Bool.{true}
 use borrow.Author.Tests.{not-true, not-false}
 use Rattle.meaning.specs.Verdicts.{verdict, passes}
 use Rattle.meaning.proofs.Checked.{passes-valid}
+use Rattle.lists.proofs.Verdicts.{checked-verdict}
 use Rattle.joins.proofs.Answers.{triple-room, bad-low, bad-high, first-refused, second-refused, joined, no-room}
 use Rattle.joins.proofs.join.Statement.{statement}
 use Rattle.joins.proofs.join.Tie as tie
@@ -21,10 +22,10 @@ abbrev second : tie.Else4 → tie.Else3
 second e = e .before .before .before
 
 passes-a : (e : tie.Else3) → passes (verdict (low (first e) .before .args .a .now)) ≡ true
-passes-a e = ap passes (sym (e .before .before .check .ensures)) ∙ sym (e .before .is-valid .ensures) ∙ not-false _ (e .if3 .left)
+passes-a e = ap passes (sym (checked-verdict _ _ (e .before .before .check .ensures))) ∙ sym (e .before .is-valid .ensures) ∙ not-false _ (e .if3 .left)
 
 passes-b : (e : tie.Else4) → passes (verdict (low (first (second e)) .before .args .b .now)) ≡ true
-passes-b e = ap passes (sym (e .before .before .check2 .ensures)) ∙ sym (e .before .is-valid2 .ensures) ∙ not-false _ (e .if4 .left)
+passes-b e = ap passes (sym (checked-verdict _ _ (e .before .before .check2 .ensures))) ∙ sym (e .before .is-valid2 .ensures) ∙ not-false _ (e .if4 .left)
 
 returns : tie.Need-returns
 returns c = bad-low _ _ _ _ (c .if1 .taken)
@@ -41,7 +42,7 @@ is-valid-requires c κs = search needs
 returns-3 : tie.Need-returns-3
 returns-3 c =
     let g = c .before .before .before in
-    first-refused _ _ _ _ (low g .if1 .left) (g .if2 .left) _ (c .before .before .check .ensures)
+    first-refused _ _ _ _ (low g .if1 .left) (g .if2 .left) _ (checked-verdict _ _ (c .before .before .check .ensures))
     (sym (c .before .is-valid .ensures) ∙ not-true _ (c .if3 .taken))
 
 check-requires-2 : tie.Need-check-requires-2
@@ -54,7 +55,7 @@ returns-4 : tie.Need-returns-4
 returns-4 c =
     let f = c .before .before .before in
     let g = first f in
-    second-refused _ _ _ _ (low g .if1 .left) (g .if2 .left) (passes-a f) _ (c .before .before .check2 .ensures)
+    second-refused _ _ _ _ (low g .if1 .left) (g .if2 .left) (passes-a f) _ (checked-verdict _ _ (c .before .before .check2 .ensures))
     (sym (c .before .is-valid2 .ensures) ∙ not-true _ (c .if4 .taken))
 
 fitting-requires : tie.Need-fitting-requires

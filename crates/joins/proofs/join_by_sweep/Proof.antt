@@ -3,6 +3,7 @@ use borrow.Author.Needs.{needs}
 use native.Mathlib.Omega.{arith}
 use denote.Ref.{now}
 use Rattle.lists.proofs.Vertices.{length-vertices}
+use Rattle.meaning.specs.Lists.{mostVertices}
 use Rattle.joins.proofs.join_by_sweep.Statement.{statement}
 use Rattle.joins.proofs.join_by_sweep.Tie as tie
 
@@ -10,6 +11,7 @@ mul-if1 : tie.Need-mul-if1
 mul-if1 c = search needs
 
 join-many-requires : tie.Need-join-many-requires
+unfolding mostVertices
 join-many-requires c κs = search needs
 
 same-length : tie.Need-same-length
@@ -22,6 +24,7 @@ mul-if2 : tie.Need-mul-if2
 mul-if2 c = search needs
 
 join-many-requires-2 : tie.Need-join-many-requires-2
+unfolding mostVertices
 join-many-requires-2 c κs = search needs
 
 same-length-2 : tie.Need-same-length-2

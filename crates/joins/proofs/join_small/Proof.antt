@@ -3,6 +3,7 @@ use borrow.Author.Needs.{needs}
 use mathlib.Core.Path.{subst}
 use mathlib.Core.List.{List}
 use lib.IntN.{ℤ}
+use Rattle.meaning.specs.Lists.{mostVertices}
 use Rattle.meaning.specs.Operations.{joinedList}
 use Rattle.sweep.specs.Room.{Filled}
 use Rattle.joins.proofs.Answers.{small-fits, small-kept}
@@ -13,6 +14,7 @@ join-few-requires : tie.Need-join-few-requires
 join-few-requires c κs = search needs
 
 join-many-requires : tie.Need-join-many-requires
+unfolding mostVertices
 join-many-requires c κs = search needs
 
 same-length : tie.Need-same-length

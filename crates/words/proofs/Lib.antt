@@ -1,0 +1,2 @@
+-- Laws of two's complement.
+pub mod Laws

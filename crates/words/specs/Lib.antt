@@ -1,0 +1,2 @@
+-- What must be believed of two's complement.
+pub mod Words
