@@ -3,13 +3,16 @@
 --   cellOutcome, CellPromise      what the cell query comes to: yes or no; for a list that is not valid its refusal, and no; and its promise
 --   Report, cornerSays            the mask of the cells round a corner, how many they are, and the kind; what an answer of the corner report comes to
 --   cornerOutcome, CornerPromise  what the corner report comes to; 0 in all three for a list that is not valid; and its promise
---   onPlane, planeNumbers, PlanePromise    the numbers of the vertices with a focus number; none for a list that is not valid
+--   onPlane, planeNumbers         the numbers of the vertices with a focus number; none for a list that is not valid
 --   beforePlane, throughPlane, planeEnds, EndsPromise    where they stand in the list: from all numbers of the vertices with a lower focus number
 --                                 to those of the vertices with a focus number that is not higher; from 0 to 0 for a list that is not valid
+--   Pointer, numberBytes, behind  where a slice lies, as its reference has it; how many bytes a number takes; so many numbers behind, in the same object
+--   Part, planeSays               what a slice holds and where it lies; the part that is handed back
+--   planeOutcome, PlanePromise    what the plane query comes to: those numbers, at their place in the caller's own list, an empty part too; and its promise
 use mathlib.Core.Path.{_≡_}
 use mathlib.Core.Bool.{Bool, true, false, cond}
 use mathlib.Core.List.{List, []}
-use Prim.Native.Nat.{ℕ, _*_}
+use Prim.Native.Nat.{ℕ, _+_, _*_}
 use lib.IntN.{ℤ}
 use lib.Signed.{leZ, ltZ}
 use Rattle.meaning.specs.Numbers.{Cell, Corner}
@@ -80,9 +83,6 @@ onPlane x v = same (v .focus) x
 abbrev pub planeNumbers : List ℤ → ℤ → List ℤ
 planeNumbers ns x = cond (passes (verdict ns)) (numbers (keep (onPlane x) (vertices ns))) []
 
-pub record PlanePromise (ns : List ℤ) (x : ℤ) (part : List ℤ) : Type 0 where
-  pub contents : part ≡ planeNumbers ns x
-
 abbrev pub beforePlane : ℤ → Corner → Bool
 beforePlane x v = ltZ (v .focus) x
 
@@ -97,3 +97,28 @@ planeEnds ns x = record {
 
 pub record EndsPromise (ns : List ℤ) (x : ℤ) (r : Ends) : Type 0 where
   pub answer : r ≡ planeEnds ns x
+
+-- the object, and how many bytes behind its start
+abbrev pub Pointer : Type 0
+Pointer = ℕ × ℕ
+
+-- 16 bits
+abbrev pub numberBytes : ℕ
+numberBytes = 2
+
+abbrev pub behind : Pointer → ℕ → Pointer
+behind p n = (p .0, p .1 + n * numberBytes)
+
+pub record Part : Type 0 where
+  pub contents : List ℤ
+  pub pointer : Pointer
+
+abbrev pub planeSays : List ℤ → Pointer → Part
+planeSays contents pointer = record { contents = contents; pointer = pointer }
+
+-- of a list of these numbers that lies there
+abbrev pub planeOutcome : List ℤ → Pointer → ℤ → Part
+planeOutcome ns p x = record { contents = planeNumbers ns x; pointer = behind p (planeEnds ns x .start) }
+
+unfoldable pub PlanePromise : List ℤ → Pointer → ℤ → List ℤ → Pointer → Type 0
+PlanePromise ns p x part q = planeSays part q ≡ planeOutcome ns p x

@@ -2,7 +2,6 @@
 // It relies on `lists` for the check, on `codes` for the crossing to unsigned numbers, on `kinds` for the kind of a mask.
 mod pass;
 
-ghost use mathlib.Core.Path.{_≡_};
 ghost use Rattle.meaning.specs.Numbers.{cell, corner};
 ghost use Rattle.asks.specs.Asks.{CellPromise, CornerPromise, PlanePromise, EndsPromise};
 use meaning::Verdict;
@@ -87,9 +86,9 @@ pub fn plane_ends(list: &[i16], focus: i16) -> Ends
     Ends { start, end }
 }
 
-// The vertices with that focus number, as a part of the list.
+// The vertices with that focus number, as a part of the list, at their place.
 pub fn plane<'a>(list: &'a [i16], focus: i16) -> &'a [i16]
-    ensures { λ r. ⌜ PlanePromise (now (list .entry)) focus (now r) ⌝ }
+    ensures { λ r. ⌜ PlanePromise (now (list .entry)) (list .entry .ptr) focus (now r) (r .ptr) ⌝ }
 {
     let ends = plane_ends(list, focus);
     let start = ends.start;

@@ -1,10 +1,13 @@
 -- Lists in results, from keys: what section and split come to.
+--   length-numbers, length-pairs            how many numbers the vertices, or the pairs, of a list have
+--   fits-room                               a list that fits has room
 --   pairs-no-room, pairs-done               pairs in a result, where they do not fit and where they do
---   low-no-room, high-no-room, halves-done  two lists in two results
+--   low-short, high-short, both-fit         two lists in two results, by which of them fit
+--   low-no-room, high-no-room, halves-done  the same of lists that are given by keys
 --   few-vertices                            a valid list has at most 1,024 vertices
 -- Assumes nothing.
-use mathlib.Core.Path.{_≡_, refl, sym, _∙_, ap}
-use mathlib.Core.Bool.{Bool, true, false}
+use mathlib.Core.Path.{_≡_, refl, sym, _∙_, ap, ap₂}
+use mathlib.Core.Bool.{Bool, true, false, _&&_, cond}
 use mathlib.Core.List.{List, [], _∷_, _++_, map}
 use Prim.Native.Nat.{ℕ, _*_, _≤_}
 use native.Mathlib.Omega.{arith}
@@ -15,76 +18,96 @@ use lib.ListN.{length, drop, length-map}
 use Rattle.meaning.specs.Numbers.{Corner, Pair}
 use Rattle.meaning.specs.Lists.{numbers, Valid, mostVertices}
 use Rattle.meaning.specs.Operations.{pairNumbers}
+use Rattle.meaning.specs.Outcomes.{Outcome, outcome, Nothing, nothing, doneBoth, noRoomFor, kept, perVertex, perPair, fits, front, placed}
 use Rattle.meaning.proofs.Integers.{and-left}
+use Rattle.meaning.proofs.Outcomes.{placed-fits, placed-short}
 use Rattle.codes.specs.Keys.{ofKey}
 use Rattle.keys.specs.Parts.{pairOfKey}
 use Rattle.cuts.specs.declared.Sectioned.the-variants as section
 use Rattle.cuts.specs.declared.Halved.the-variants as split
-use Rattle.cuts.specs.Answers.{fits, sectionSays, splitSays, front, placedPairs, placedHalves}
+use Rattle.cuts.specs.Answers.{sectionSays, Halves, halves, splitSays, placedHalves}
 
 -- ---- lists in results
 
-length-pairNumbers : (ps : List Pair) → length (pairNumbers ps) ≡ 2 * length ps
-length-pairNumbers [] = refl
-length-pairNumbers (p ∷ ps) = omega (arith, length-pairNumbers ps)
+pub length-pairs : (ps : List Pair) → length (pairNumbers ps) ≡ perPair * length ps
+length-pairs [] = refl
+length-pairs (p ∷ ps) = omega (arith, length-pairs ps)
 
-length-numbers : (l : List Corner) → length (numbers l) ≡ 3 * length l
+pub length-numbers : (l : List Corner) → length (numbers l) ≡ perVertex * length l
 length-numbers [] = refl
 length-numbers (v ∷ l) = omega (arith, length-numbers l)
 
-pub fits-room : (n count room : ℕ) → fits n count room ≡ true → n ≤ room
-fits-room n count room e = leb-true n room (and-left (leb n room) _ e)
+pub fits-room : {A : Type 0} (each : ℕ) (l : List A) (room : ℕ) → fits each l room ≡ true → each * length l ≤ room
+fits-room each l room e = leb-true (each * length l) room (and-left (leb (each * length l) room) _ e)
 
 -- a list that was made member by member from another has as many members
-same-fits : {A : Type 0} (f : ℕ → A) (width : ℕ) (ks : List ℕ) (room : ℕ) {t : Bool} → fits (width * length ks) (length ks) room ≡ t
-    → fits (width * length (map f ks)) (length (map f ks)) room ≡ t
-same-fits f width ks room e = ap (λ n. fits (width * n) n room) (length-map ks f) ∙ e
+same-fits : {A : Type 0} (f : ℕ → A) (each : ℕ) (ks : List ℕ) (room : ℕ) {t : Bool} → fits each ks room ≡ t → fits each (map f ks) room ≡ t
+same-fits f each ks room e = ap (λ n. leb (each * n) room && leb n mostVertices) (length-map ks f) ∙ e
 
 -- a list in front, so many numbers a member, as it is written
-module _ {A : Type 0} (width : ℕ) (spell : List A → List ℤ) (long : (l : List A) → length (spell l) ≡ width * length l) (of : ℕ → A) where
-  written-front : (ks : List ℕ) (before after : List ℤ) → after ≡ spell (map of ks) ++ drop (width * length ks) before
-      → front (spell (map of ks)) before ≡ after
+module _ {A : Type 0} (each : ℕ) (spell : List A → List ℤ) (long : (l : List A) → length (spell l) ≡ each * length l) (of : ℕ → A) where
+  written-front : (ks : List ℕ) (before after : List ℤ) → after ≡ spell (map of ks) ++ drop (each * length ks) before
+      → after ≡ front (spell (map of ks)) before
   written-front ks before after e =
-      ap (λ n. spell (map of ks) ++ drop n before) (long (map of ks) ∙ ap (λ n. width * n) (length-map ks of)) ∙ sym e
+      e ∙ sym (ap (λ n. spell (map of ks) ++ drop n before) (long (map of ks) ∙ ap (λ n. each * n) (length-map ks of)))
+
+-- ---- pairs
 
 module _ (ks : List ℕ) (before : List ℤ) where
-  pub pairs-no-room : fits (2 * length ks) (length ks) (length before) ≡ false
-      → placedPairs (map pairOfKey ks) before ≡ sectionSays section.NoRoom before
-  pairs-no-room e = rw (same-fits pairOfKey 2 ks (length before) e)
+  pub pairs-no-room : fits perPair ks (length before) ≡ false → sectionSays section.NoRoom before ≡ placed perPair pairNumbers (map pairOfKey ks) before
+  pairs-no-room e = sym (placed-short perPair pairNumbers (map pairOfKey ks) before (same-fits pairOfKey perPair ks (length before) e))
 
-  pub pairs-done : (after : List ℤ) → fits (2 * length ks) (length ks) (length before) ≡ true
-      → after ≡ pairNumbers (map pairOfKey ks) ++ drop (2 * length ks) before
-      → placedPairs (map pairOfKey ks) before ≡ sectionSays (section.Done (length ks)) after
+  pub pairs-done : (after : List ℤ) → fits perPair ks (length before) ≡ true
+      → after ≡ pairNumbers (map pairOfKey ks) ++ drop (perPair * length ks) before
+      → sectionSays (section.Done (length ks)) after ≡ placed perPair pairNumbers (map pairOfKey ks) before
   pairs-done after e f =
-      rw (same-fits pairOfKey 2 ks (length before) e)
-      (λ i. record {
-        answer = section.Done (length-map ks pairOfKey i);
-        values = record { number = 0; operand = 0; place = 0; count = length-map ks pairOfKey i };
-        left = written-front 2 pairNumbers length-pairNumbers pairOfKey ks before after f i;
-      })
+      ap₂ (λ n ns. sectionSays (section.Done n) ns)
+      (sym (length-map ks pairOfKey)) (written-front perPair pairNumbers length-pairs pairOfKey ks before after f) ∙
+      sym (placed-fits perPair pairNumbers (map pairOfKey ks) before (same-fits pairOfKey perPair ks (length before) e))
+
+-- ---- halves
+
+module _ (l u : List Corner) (low high : List ℤ) where
+  abbrev both : Outcome Nothing Halves
+  both = outcome (doneBoth (length l) (length u)) nothing (halves (front (numbers l) low) (front (numbers u) high))
+
+  abbrev without : ℕ → Outcome Nothing Halves
+  without half = kept nothing (halves low high) (noRoomFor half)
+
+  pub low-short : fits perVertex l (length low) ≡ false → placedHalves l u low high ≡ kept nothing (halves low high) (noRoomFor 1)
+  low-short e = ap (λ s. cond s (cond (fits perVertex u (length high)) both (without 2)) (without 1)) e
+
+  pub high-short : fits perVertex l (length low) ≡ true → fits perVertex u (length high) ≡ false
+      → placedHalves l u low high ≡ kept nothing (halves low high) (noRoomFor 2)
+  high-short e f = ap₂ (λ s t. cond s (cond t both (without 2)) (without 1)) e f
+
+  pub both-fit : fits perVertex l (length low) ≡ true → fits perVertex u (length high) ≡ true
+      → placedHalves l u low high ≡ outcome (doneBoth (length l) (length u)) nothing (halves (front (numbers l) low) (front (numbers u) high))
+  both-fit e f = ap₂ (λ s t. cond s (cond t both (without 2)) (without 1)) e f
 
 module _ (ls us : List ℕ) (low high : List ℤ) where
-  pub low-no-room : fits (3 * length ls) (length ls) (length low) ≡ false
-      → placedHalves (map ofKey ls) (map ofKey us) low high ≡ splitSays split.LowNoRoom low high
-  low-no-room e = rw (same-fits ofKey 3 ls (length low) e)
+  pub low-no-room : fits perVertex ls (length low) ≡ false → splitSays split.LowNoRoom low high ≡ placedHalves (map ofKey ls) (map ofKey us) low high
+  low-no-room e = sym (low-short (map ofKey ls) (map ofKey us) low high (same-fits ofKey perVertex ls (length low) e))
 
-  module _ (e : fits (3 * length ls) (length ls) (length low) ≡ true) where
-    pub high-no-room : fits (3 * length us) (length us) (length high) ≡ false
-        → placedHalves (map ofKey ls) (map ofKey us) low high ≡ splitSays split.HighNoRoom low high
-    high-no-room f = rw (same-fits ofKey 3 ls (length low) e, same-fits ofKey 3 us (length high) f)
+  module _ (e : fits perVertex ls (length low) ≡ true) where
+    pub high-no-room : fits perVertex us (length high) ≡ false → splitSays split.HighNoRoom low high ≡ placedHalves (map ofKey ls) (map ofKey us) low high
+    high-no-room f =
+        sym
+        (high-short (map ofKey ls) (map ofKey us) low high
+        (same-fits ofKey perVertex ls (length low) e) (same-fits ofKey perVertex us (length high) f))
 
-    pub halves-done : (low′ high′ : List ℤ) → fits (3 * length us) (length us) (length high) ≡ true
-        → low′ ≡ numbers (map ofKey ls) ++ drop (3 * length ls) low
-        → high′ ≡ numbers (map ofKey us) ++ drop (3 * length us) high
-        → placedHalves (map ofKey ls) (map ofKey us) low high ≡ splitSays (split.Done (length ls) (length us)) low′ high′
+    pub halves-done : (low′ high′ : List ℤ) → fits perVertex us (length high) ≡ true
+        → low′ ≡ numbers (map ofKey ls) ++ drop (perVertex * length ls) low
+        → high′ ≡ numbers (map ofKey us) ++ drop (perVertex * length us) high
+        → splitSays (split.Done (length ls) (length us)) low′ high′ ≡ placedHalves (map ofKey ls) (map ofKey us) low high
     halves-done low′ high′ f g h =
-        rw (same-fits ofKey 3 ls (length low) e, same-fits ofKey 3 us (length high) f)
-        (λ i. record {
-          answer = split.Done (length-map ls ofKey i) (length-map us ofKey i);
-          values = record { number = 0; operand = 0; place = 0; lowCount = length-map ls ofKey i; highCount = length-map us ofKey i };
-          low = written-front 3 numbers length-numbers ofKey ls low low′ g i;
-          high = written-front 3 numbers length-numbers ofKey us high high′ h i;
-        })
+        ap₂ (λ m ns. splitSays (split.Done m (length us)) ns high′)
+        (sym (length-map ls ofKey)) (written-front perVertex numbers length-numbers ofKey ls low low′ g) ∙
+        ap₂ (λ n ns. splitSays (split.Done (length (map ofKey ls)) n) (front (numbers (map ofKey ls)) low) ns)
+        (sym (length-map us ofKey)) (written-front perVertex numbers length-numbers ofKey us high high′ h) ∙
+        sym
+        (both-fit (map ofKey ls) (map ofKey us) low high
+        (same-fits ofKey perVertex ls (length low) e) (same-fits ofKey perVertex us (length high) f))
 
 -- ---- room
 

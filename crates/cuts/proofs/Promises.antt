@@ -1,45 +1,44 @@
 -- The promises of section and split, case by case, and that they are settled.
---   inRange, range-low, range-high          what is asked is in range, after the crossing
+--   range-low, range-high                   what is asked is in range, after the crossing
 --   number-back                             the steps of a number give it back
---   asked-bad, asked-next                   the first refusal: a bad axis or number
---   checked-next, checked-refused, refused-not     the check's refusals
+--   outcome-bad, outcome-refused, outcome-next     the order of refusals: a bad axis or number; then the check's; then what follows
+--   refused-not                             a verdict whose case is none of the first does not pass
 --   section-bad, section-refused, section-made     the cases of section
 --   split-bad, split-refused, split-made           the cases of split
---   section-settled, split-settled          two outcomes that a promise allows are equal
+--   section-once, split-once                the values tell the answers apart
+--   section-settled, split-settled          two outcomes that a promise allows are equal, answer and contents
 -- Assumes nothing.
 use mathlib.Core.Path.{_≡_, refl, sym, _∙_, ap, ap₂}
 use mathlib.Core.Logic.{inl, inr}
 use mathlib.Core.Bool.{Bool, true, false, _&&_, cond, false≢true}
 use mathlib.Core.List.{List, [], _∷_}
 use mathlib.Core.Option.{none}
-use Prim.Native.Nat.{ℕ, zero, suc, _-_, _≤_, _<_}
+use Prim.Native.Nat.{ℕ, zero, suc, _-_, _≤_}
 use native.Mathlib.Omega.{arith}
 use borrow.Author.Tests.{le-leb, lt-leb, leb-true, ne-eqb}
 use types.Run.{OneOf}
-use lib.Dec.{leb}
+use lib.Dec.{leb, eqb}
 use lib.IntN.{ℤ}
 use Rattle.meaning.specs.Numbers.{Axis, focus, first, second, number, steps, isCode, isNumber}
-use Rattle.meaning.specs.Verdicts.{verdict, passes, refusalNumber, refusalPlace}
-use Rattle.meaning.specs.Operations.{axisOf}
+use Rattle.meaning.specs.Verdicts.{verdict, passes}
+use Rattle.meaning.specs.Operations.{axisOf, pairNumbers}
+use Rattle.meaning.specs.Outcomes.{Values, Outcome, Nothing, nothing, refused, badNumber, kept, checked, perPair, placed}
 use Rattle.meaning.specs.declared.Verdict.{Verdict}
 use Rattle.meaning.specs.declared.Verdict.the-variants.{Valid as Passed, NotTriples, TooMany, OutOfRange, NotRising, OddLine}
 use Rattle.meaning.proofs.Integers.{and-left, and-right}
+use Rattle.meaning.proofs.Outcomes.{verdictBy, verdict-back, checked-next, checked-refused}
 use Rattle.codes.specs.Lift.{lifted}
 use Rattle.codes.proofs.Laws.{isCode-lifted, isNumber-lifted, lifted-number, number-steps}
+use Rattle.keys.specs.Parts.{axisAt}
 use Rattle.cuts.specs.declared.Sectioned.{Sectioned}
 use Rattle.cuts.specs.declared.Sectioned.the-variants as section
 use Rattle.cuts.specs.declared.Halved.{Halved}
 use Rattle.cuts.specs.declared.Halved.the-variants as split
-use Rattle.cuts.specs.Answers.{asked, checked}
-use Rattle.cuts.specs.Answers.{SectionOutcome, sectionKept, sectionOutcome, SectionPromise, sectionSays}
-use Rattle.cuts.specs.Answers.{SplitOutcome, splitKept, splitOutcome, SplitPromise, splitSays}
-use Rattle.keys.specs.Parts.{axisAt}
+use Rattle.cuts.specs.Answers.{asked, sectionValues, sectionSays, sectionPairs, SectionPromise}
+use Rattle.cuts.specs.Answers.{Halves, halves, splitValues, splitSays, lowerList, upperList, placedHalves, SplitPromise}
+use Rattle.cuts.specs.Steps.{inRange, sectionBySteps, splitBySteps}
 
 -- ---- ranges
-
--- an axis' number, and a number after the crossing, from the lowest to a last one
-abbrev pub inRange : ℕ → ℕ → ℕ → Bool
-inRange n u last = leb n 2 && (leb 32256 u && leb u last)
 
 module _ (n u last : ℕ) (good : inRange n u last ≡ true) where
   pub range-low : 32256 ≤ u
@@ -81,12 +80,20 @@ module _ {A : Type 0} (b : Bool) (bad : A) (next : Axis → A) where
   asked-next (suc (suc zero)) e = ap (λ c. cond c (next second) bad) e
   asked-next (suc (suc (suc n))) e = absurd (false≢true (sym (ap (_&& b) (lt-leb (suc (suc (suc n))) 2 (omega arith))) ∙ e))
 
-module _ {A : Type 0} (v : Verdict) (refused : Verdict → A) (next : A) where
-  pub checked-next : v ≡ Passed → checked v refused next ≡ next
-  checked-next e = ap (λ w. cond (passes w) next (refused v)) e
+-- both outcomes go by this order; b says that the number that is asked is in range, and left is what the results hold
+module _ {Left : Type 0} (ns : List ℤ) (n : ℕ) (b : Bool) (left : Left) (next : Axis → Outcome Nothing Left) where
+  abbrev pub inOrder : Outcome Nothing Left
+  inOrder = asked (axisOf n) b (kept nothing left badNumber) (λ axis. checked 1 (verdict ns) (kept nothing left) (next axis))
 
-  pub checked-refused : passes v ≡ false → checked v refused next ≡ refused v
-  checked-refused h = ap (λ b. cond b next (refused v)) h
+  pub outcome-bad : (leb n 2 && b) ≡ false → inOrder ≡ kept nothing left badNumber
+  outcome-bad e = asked-bad _ _ _ n e
+
+  module _ (good : (leb n 2 && b) ≡ true) where
+    pub outcome-refused : passes (verdict ns) ≡ false → inOrder ≡ kept nothing left (refused 1 (verdict ns))
+    outcome-refused h = asked-next _ _ _ n good ∙ checked-refused 1 (verdict ns) (kept nothing left) (next (axisAt n)) h
+
+    pub outcome-next : passes (verdict ns) ≡ true → inOrder ≡ next (axisAt n)
+    outcome-next h = asked-next _ _ _ n good ∙ checked-next 1 (verdict ns) (kept nothing left) (next (axisAt n)) h
 
 -- a verdict whose case is none of the first does not pass
 pub refused-not : (v : Verdict) → OneOf (1 ∷ 2 ∷ 3 ∷ 4 ∷ 5 ∷ []) (denote.Enum.Declared.tagOf Rattle.meaning.proofs.Verdict.the-type v) → passes v ≡ false
@@ -108,12 +115,12 @@ refused-not (OddLine i) h = refl
 
 -- u is the code that was asked, after the crossing
 module _ (ns : List ℤ) (n : ℕ) (k : ℤ) (before : List ℤ) (u : ℕ) (crossed : u ≡ lifted k) where
-  abbrev refusal : Verdict → SectionOutcome
-  refusal v = sectionKept before (section.Refused v) (refusalNumber v) 1 (refusalPlace v)
+  abbrev made : Axis → Outcome Nothing (List ℤ)
+  made axis = placed perPair pairNumbers (sectionPairs axis k ns) before
 
   pub section-bad : inRange n u 33279 ≡ false → SectionPromise ns n k before section.BadRequest before
   unfolding SectionPromise
-  section-bad e = asked-bad _ _ _ n (ap (leb n 2 &&_) (is-code k u crossed) ∙ e)
+  section-bad e = sym (outcome-bad ns n (isCode k) before made (ap (leb n 2 &&_) (is-code k u crossed) ∙ e))
 
   module _ (good : inRange n u 33279 ≡ true) where
     in-range : (leb n 2 && isCode k) ≡ true
@@ -122,30 +129,28 @@ module _ (ns : List ℤ) (n : ℕ) (k : ℤ) (before : List ℤ) (u : ℕ) (cros
     pub section-refused : (v : Verdict) → v ≡ verdict ns → passes v ≡ false → SectionPromise ns n k before (section.Refused v) before
     unfolding SectionPromise
     section-refused v e h =
-        asked-next _ _ _ n in-range ∙
-        ap (λ w. checked w refusal (sectionOutcome (axisAt n) k ns before)) (sym e) ∙
-        checked-refused v refusal (sectionOutcome (axisAt n) k ns before) h
+        ap (λ w. sectionSays (section.Refused w) before) e ∙
+        sym (outcome-refused ns n (isCode k) before made in-range (ap passes (sym e) ∙ h))
 
     pub section-made : verdict ns ≡ Passed → (r : Sectioned) (after : List ℤ)
-        → sectionOutcome (axisAt n) (number (u - 32256)) ns before ≡ sectionSays r after → SectionPromise ns n k before r after
+        → sectionSays r after ≡ sectionBySteps ns n (u - 32256) before → SectionPromise ns n k before r after
     unfolding SectionPromise
     section-made v r after e =
         let back = number-back k u crossed (range-low n u 33279 good) (omega (arith, range-high n u 33279 good)) in
-        asked-next _ _ _ n in-range ∙
-        checked-next (verdict ns) refusal (sectionOutcome (axisAt n) k ns before) v ∙
-        ap (λ z. sectionOutcome (axisAt n) z ns before) (sym back) ∙
-        e
+        e ∙
+        ap (λ z. placed perPair pairNumbers (sectionPairs (axisAt n) z ns) before) back ∙
+        sym (outcome-next ns n (isCode k) before made in-range (ap passes v))
 
 -- ---- the promise of split, case by case
 
 -- u is the number that was asked, after the crossing
 module _ (ns : List ℤ) (n : ℕ) (p : ℤ) (low high : List ℤ) (u : ℕ) (crossed : u ≡ lifted p) where
-  abbrev refusal′ : Verdict → SplitOutcome
-  refusal′ v = splitKept low high (split.Refused v) (refusalNumber v) 1 (refusalPlace v)
+  abbrev made-both : Axis → Outcome Nothing Halves
+  made-both axis = placedHalves (lowerList axis p ns) (upperList axis p ns) low high
 
   pub split-bad : inRange n u 33280 ≡ false → SplitPromise ns n p low high split.BadRequest low high
   unfolding SplitPromise
-  split-bad e = asked-bad _ _ _ n (ap (leb n 2 &&_) (is-number p u crossed) ∙ e)
+  split-bad e = sym (outcome-bad ns n (isNumber p) (halves low high) made-both (ap (leb n 2 &&_) (is-number p u crossed) ∙ e))
 
   module _ (good : inRange n u 33280 ≡ true) where
     in-range′ : (leb n 2 && isNumber p) ≡ true
@@ -154,29 +159,68 @@ module _ (ns : List ℤ) (n : ℕ) (p : ℤ) (low high : List ℤ) (u : ℕ) (cr
     pub split-refused : (v : Verdict) → v ≡ verdict ns → passes v ≡ false → SplitPromise ns n p low high (split.Refused v) low high
     unfolding SplitPromise
     split-refused v e h =
-        asked-next _ _ _ n in-range′ ∙
-        ap (λ w. checked w refusal′ (splitOutcome (axisAt n) p ns low high)) (sym e) ∙
-        checked-refused v refusal′ (splitOutcome (axisAt n) p ns low high) h
+        ap (λ w. splitSays (split.Refused w) low high) e ∙
+        sym (outcome-refused ns n (isNumber p) (halves low high) made-both in-range′ (ap passes (sym e) ∙ h))
 
     pub split-made : verdict ns ≡ Passed → (r : Halved) (low′ high′ : List ℤ)
-        → splitOutcome (axisAt n) (number (u - 32256)) ns low high ≡ splitSays r low′ high′ → SplitPromise ns n p low high r low′ high′
+        → splitSays r low′ high′ ≡ splitBySteps ns n (u - 32256) low high → SplitPromise ns n p low high r low′ high′
     unfolding SplitPromise
     split-made v r low′ high′ e =
         let back = number-back p u crossed (range-low n u 33280 good) (range-high n u 33280 good) in
-        asked-next _ _ _ n in-range′ ∙
-        checked-next (verdict ns) refusal′ (splitOutcome (axisAt n) p ns low high) v ∙
-        ap (λ z. splitOutcome (axisAt n) z ns low high) (sym back) ∙
-        e
+        e ∙
+        ap (λ z. placedHalves (lowerList (axisAt n) z ns) (upperList (axisAt n) z ns) low high) back ∙
+        sym (outcome-next ns n (isNumber p) (halves low high) made-both in-range′ (ap passes v))
+
+-- ---- the values tell the answers apart
+
+-- the answer of a section with these values: a refusal of the list has operand 1
+abbrev sectionBy : Values → Sectioned
+sectionBy v =
+    cond (eqb (v .operand) 1) (section.Refused (verdictBy (v .number) (v .place)))
+    (cond (eqb (v .number) 0) (section.Done (v .count))
+    (cond (eqb (v .number) 9) section.BadRequest section.NoRoom))
+
+section-back : (r : Sectioned) → sectionBy (sectionValues r) ≡ r
+section-back (section.Done n) = refl
+section-back section.BadRequest = refl
+section-back (section.Refused v) = ap section.Refused (verdict-back v)
+section-back section.NoRoom = refl
+
+pub section-once : (r s : Sectioned) → sectionValues r ≡ sectionValues s → r ≡ s
+section-once r s e = sym (section-back r) ∙ ap sectionBy e ∙ section-back s
+
+-- the answer of a split with these values: 6 has the half as its operand
+abbrev splitBy : Values → Halved
+splitBy v =
+    cond (eqb (v .number) 6) (cond (eqb (v .operand) 1) split.LowNoRoom split.HighNoRoom)
+    (cond (eqb (v .operand) 1) (split.Refused (verdictBy (v .number) (v .place)))
+    (cond (eqb (v .number) 0) (split.Done (v .count) (v .second)) split.BadRequest))
+
+split-back : (r : Halved) → splitBy (splitValues r) ≡ r
+split-back (split.Done m n) = refl
+split-back split.BadRequest = refl
+split-back (split.Refused Passed) = refl
+split-back (split.Refused NotTriples) = refl
+split-back (split.Refused TooMany) = refl
+split-back (split.Refused (OutOfRange i)) = refl
+split-back (split.Refused (NotRising i)) = refl
+split-back (split.Refused (OddLine i)) = refl
+split-back split.LowNoRoom = refl
+split-back split.HighNoRoom = refl
+
+pub split-once : (r s : Halved) → splitValues r ≡ splitValues s → r ≡ s
+split-once r s e = sym (split-back r) ∙ ap splitBy e ∙ split-back s
 
 -- ---- the promises are settled
 
 pub section-settled : (ns : List ℤ) (n : ℕ) (k : ℤ) (before : List ℤ) (r s : Sectioned) (a b : List ℤ)
     → SectionPromise ns n k before r a → SectionPromise ns n k before s b → (r ≡ s) × (a ≡ b)
 unfolding SectionPromise
-section-settled ns n k before r s a b e f = let g = sym e ∙ f in (ap (λ o. o .answer) g, ap (λ o. o .left) g)
+section-settled ns n k before r s a b e f =
+    let g = e ∙ sym f in (section-once r s (ap (λ o. o .values) g), ap (λ o. o .left) g)
 
 pub split-settled : (ns : List ℤ) (n : ℕ) (p : ℤ) (low high : List ℤ) (r s : Halved) (a b a′ b′ : List ℤ)
     → SplitPromise ns n p low high r a b → SplitPromise ns n p low high s a′ b′ → (r ≡ s) × (a ≡ a′) × (b ≡ b′)
 unfolding SplitPromise
 split-settled ns n p low high r s a b a′ b′ e f =
-    let g = sym e ∙ f in (ap (λ o. o .answer) g, ap (λ o. o .low) g, ap (λ o. o .high) g)
+    let g = e ∙ sym f in (split-once r s (ap (λ o. o .values) g), ap (λ o. o .left .low) g, ap (λ o. o .left .high) g)

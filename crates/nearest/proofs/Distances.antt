@@ -24,7 +24,7 @@ sub-apart a b = go (ltb a b) refl
     go true e = ap natAbs (down-below a b (ltb-true a b e)) ∙ omega (arith, ltb-true a b e)
     go false e = ap natAbs (down-not a b (ltb-false a b e)) ∙ omega (arith, ltb-false a b e)
 
-gap-lifted : (y z : ℤ) → Above 32768 y → Above 32768 z → gap y z ≡ apart (lifted y) (lifted z)
+pub gap-lifted : (y z : ℤ) → Above 32768 y → Above 32768 z → gap y z ≡ apart (lifted y) (lifted z)
 gap-lifted (pos a) (pos zero) p q = omega arith
 gap-lifted (pos a) (pos (suc b)) p q = sub-apart a (suc b) ∙ omega arith
 gap-lifted (pos a) (negsuc b) p q = omega arith

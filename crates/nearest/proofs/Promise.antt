@@ -1,7 +1,7 @@
 -- The promise of nearest: its cases, what it says of each answer, and that it is settled.
 --   answered-cell, answered-empty, answered-refused    the promise, from what is known
 --   found-cell, found-empty, found-refused             what the promise says of each answer
---   settled                                            two answers that the promise allows are equal
+--   outcome-once, settled                              nearest comes to one thing, and two answers that the promise allows are equal
 -- Assumes nothing.
 use mathlib.Core.Path.{_≡_, refl, sym, _∙_, ap, subst}
 use mathlib.Core.Bool.{Bool, true, false, cond, true≢false, false≢true}
@@ -12,10 +12,10 @@ use lib.Dec.{eqb}
 use lib.IntN.{ℤ, pos}
 use lib.ListN.{length}
 use Rattle.meaning.specs.Numbers.{Cell, Corner, cell}
-use Rattle.meaning.specs.Lists.{vertices, permitted}
+use Rattle.meaning.specs.Lists.{vertices, permitted, Rising}
 use Rattle.meaning.specs.Verdicts.{verdict, passes}
 use Rattle.meaning.specs.Outcomes.{Values, Outcome, outcome, Nothing, nothing, done, emptyMap, refused, kept, checked}
-use Rattle.meaning.specs.Nearest.{distance, Nearest, Reached, reached, nowhere, nearestOf, nearestOutcome}
+use Rattle.meaning.specs.Nearest.{distance, Nearest, Reached, reached, nowhere, nearestOf, IsNearest, nearestOutcome}
 use Rattle.meaning.specs.declared.Verdict.{Verdict}
 use Rattle.meaning.proofs.Checked.{passes-valid}
 use Rattle.meaning.proofs.Closest.{nearest-unique}
@@ -84,8 +84,7 @@ module _ (ns : List ℤ) (w : Cell) where
       by true p [] q e = absurd (omega (arith, ap (λ o. o .values .number) e))
       by true p (v ∷ l) q e =
           let is : cell a b d ≡ h .at = ap (λ o. o .given .at) e in
-          let (c, m) = some-permitted v l (subst (λ k. Rattle.meaning.specs.Lists.Rising k) q (passes-valid ns p .rising)) in
-          (
+          let (c, m) = some-permitted v l (subst Rising q (passes-valid ns p .rising)) in (
             p,
             subst (Nearest (permitted (vertices ns)) w) (sym is) (h .nearest p c (ap (λ k. permitted k c) q ∙ m)),
             ap (λ o. o .given .far) e ∙ ap (distance w) (sym is),
@@ -124,18 +123,17 @@ found-back Empty = refl
 found-back (Refused v) = ap Refused (verdict-back v)
 
 module _ (ns : List ℤ) (w : Cell) where
-  -- whatever cell two answers go by, they come to the same
-  same-outcome : (r s : Found) (h : Answered ns w r) (k : Answered ns w s) → nearestOutcome ns w (h .at) ≡ nearestOutcome ns w (k .at)
-  same-outcome r s h k = by (passes (verdict ns)) refl (vertices ns) refl
+  -- whatever nearest cell is taken, nearest comes to the same
+  pub outcome-once : (a b : Cell) → IsNearest ns w a → IsNearest ns w b → nearestOutcome ns w a ≡ nearestOutcome ns w b
+  outcome-once a b h k = by (passes (verdict ns)) refl (vertices ns) refl
     where
-      by : (t : Bool) → passes (verdict ns) ≡ t → (l : List Corner) → vertices ns ≡ l → comes ns w t l (h .at) ≡ comes ns w t l (k .at)
+      by : (t : Bool) → passes (verdict ns) ≡ t → (l : List Corner) → vertices ns ≡ l → comes ns w t l a ≡ comes ns w t l b
       by false p l q = refl
       by true p [] q = refl
       by true p (v ∷ l) q =
-          let (c, m) = some-permitted v l (subst (λ j. Rattle.meaning.specs.Lists.Rising j) q (passes-valid ns p .rising)) in
+          let (c, m) = some-permitted v l (subst Rising q (passes-valid ns p .rising)) in
           let y = ap (λ j. permitted j c) q ∙ m in
-          ap (λ c. outcome (done 0) (reached c (distance w c)) nothing)
-          (nearest-unique (permitted (vertices ns)) w (h .at) (k .at) (h .nearest p c y) (k .nearest p c y))
+          ap (λ c. outcome (done 0) (reached c (distance w c)) nothing) (nearest-unique (permitted (vertices ns)) w a b (h p c y) (k p c y))
 
   pub settled : (r s : Found) → Answered ns w r → Answered ns w s → r ≡ s
-  settled r s h k = sym (found-back r) ∙ ap foundBy (h .is ∙ same-outcome r s h k ∙ sym (k .is)) ∙ found-back s
+  settled r s h k = sym (found-back r) ∙ ap foundBy (h .is ∙ outcome-once (h .at) (k .at) (h .nearest) (k .nearest) ∙ sym (k .is)) ∙ found-back s

@@ -1,2 +1,4 @@
--- Laws that the proofs of this crate cite.
+-- Laws of packed answers: packing, what fits, and reading back.
 pub mod Packing
+pub mod Bounds
+pub mod Back

@@ -8,18 +8,19 @@
 --   packedNearest               nearest: beside it the 16 bits of each code, focus in bits 32 to 47, first shift in 16 to 31, second in 0 to 15
 --   packedDistance              the distance to the nearest cell: beside it the distance in bits 0 to 31
 --   Few                         values whose place and counts are those of lists that are not too long
---   bits                        so many bits of a number, from a place up
---   Reads, ReadsCounts          a number from which the number, the operand and the place are read; and the counts
+--   bits, numberIn              so many bits of a number, from a place up; the number of an answer
+--   Reads, ReadsCounts          what is read from an answer is the number, the operand and the place of these values; and the counts
+--   placeIn, cellIn             the place and the cell that are read from an answer of nearest
 use mathlib.Core.Path.{_≡_}
 use mathlib.Core.Bool.{Bool, cond}
-use Prim.Native.Nat.{ℕ, _+_, _*_, _-_, _/_, _%_, _^_, _≤_}
+use Prim.Native.Nat.{ℕ, _+_, _*_, _-_, _/_, _%_, _^_, _≤_, _<_}
 use lib.Dec.{eqb}
 use Rattle.meaning.specs.Lists.{mostVertices}
-use Rattle.meaning.specs.Numbers.{Cell}
-use Rattle.meaning.specs.Nearest.{Reached}
+use Rattle.meaning.specs.Numbers.{Cell, cell}
+use Rattle.meaning.specs.Nearest.{Reached, nowhere}
 use Rattle.meaning.specs.Outcomes.{Values, Outcome, Nothing}
 use Rattle.meaning.specs.Kinds.{bit}
-use Rattle.words.specs.Words.{word}
+use Rattle.words.specs.Words.{word, signed}
 use Rattle.asks.specs.Asks.{Report}
 use Rattle.asks.specs.declared.Ends.{Ends}
 
@@ -52,19 +53,34 @@ packedNearest o = packedValues (o .values) + packedCodes (o .given .at)
 abbrev pub packedDistance : Outcome Reached Nothing → ℕ
 packedDistance o = packedValues (o .values) + o .given .far
 
-abbrev pub Few : Values → Type 0
-Few v = (v .place ≤ mostVertices) × (v .count ≤ mostVertices) × (v .second ≤ mostVertices)
+pub record Few (v : Values) : Type 0 where
+  pub number : v .number < 2 ^ 8
+  pub operand : v .operand < 2 ^ 8
+  pub place : v .place ≤ mostVertices
+  pub count : v .count ≤ mostVertices
+  pub second : v .second ≤ mostVertices
 
 -- ---- read back
 
 abbrev pub bits : ℕ → ℕ → ℕ → ℕ
 bits many from x = x / 2 ^ from % 2 ^ many
 
+abbrev pub numberIn : ℕ → ℕ
+numberIn x = bits 8 56 x
+
+-- what every answer carries, after whatever it gives beside
 pub record Reads (x : ℕ) (v : Values) : Type 0 where
-  pub number-at : bits 8 56 x ≡ v .number
-  pub operand-at : bits 8 48 x ≡ v .operand
-  pub place-at : bits 16 32 x ≡ v .place
+  pub number : numberIn x ≡ v .number
+  pub operand : bits 8 48 x ≡ v .operand
+  pub place : bits 16 32 x ≡ v .place
 
 pub record ReadsCounts (x : ℕ) (v : Values) : Type 0 where
-  pub second-at : bits 16 16 x ≡ v .second
-  pub count-at : bits 16 0 x ≡ v .count
+  pub second : bits 16 16 x ≡ v .second
+  pub count : bits 16 0 x ≡ v .count
+
+-- nearest: where a cell is found its focus stands where a refusal has its place
+abbrev pub placeIn : ℕ → ℕ
+placeIn x = cond (eqb (numberIn x) 0) 0 (bits 16 32 x)
+
+abbrev pub cellIn : ℕ → Cell
+cellIn x = cond (eqb (numberIn x) 0) (cell (signed (bits 16 32 x)) (signed (bits 16 16 x)) (signed (bits 16 0 x))) (nowhere .at)

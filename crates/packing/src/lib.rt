@@ -4,7 +4,7 @@ ghost use mathlib.Core.Path.{_≡_};
 ghost use Prim.Native.Nat.{_*_, _≤_};
 ghost use Rattle.meaning.specs.Lists.{mostVertices};
 ghost use Rattle.meaning.specs.Verdicts.{refusalNumber, refusalPlace};
-ghost use Rattle.meaning.specs.Outcomes.{refused, verdictValues};
+ghost use Rattle.meaning.specs.Outcomes.{refused, emptyMap, verdictValues};
 ghost use Rattle.boxes.specs.Box.{boxValues};
 ghost use Rattle.asks.specs.Asks.{cellValues, cellSays, cornerSays};
 ghost use Rattle.joins.specs.Join.{joinValues};
@@ -206,20 +206,26 @@ pub fn pack_split(answer: Halved) -> u64
     }
 }
 
+// The refusal of nearest for the empty list.
+fn pack_empty() -> u64
+    ensures { λ r. ⌜ r ≡ packedValues emptyMap ⌝ }
+{
+    pack(EMPTY, 0, 0, 0, 0)
+}
+
 // The nearest cell: its three codes, or why there is none.
 pub fn pack_nearest(found: Found) -> u64
     requires { ⌜ Few (foundValues found) ⌝ }
     ensures { λ r. ⌜ r ≡ packedNearest (foundSays found) ⌝ }
 {
     match found {
-        Found::At(focus, first, second, _) => pack(
-            DONE,
-            0,
-            words::word(focus),
-            words::word(first),
-            words::word(second),
-        ),
-        Found::Empty => pack(EMPTY, 0, 0, 0, 0),
+        Found::At(focus, first, second, _) => {
+            let x = words::word(focus);
+            let y = words::word(first);
+            let z = words::word(second);
+            pack(DONE, 0, x, y, z)
+        }
+        Found::Empty => pack_empty(),
         Found::Refused(verdict) => pack_refusal(verdict, ONE_LIST),
     }
 }
@@ -231,7 +237,7 @@ pub fn pack_distance(found: Found) -> u64
 {
     match found {
         Found::At(_, _, _, distance) => distance as u64,
-        Found::Empty => pack(EMPTY, 0, 0, 0, 0),
+        Found::Empty => pack_empty(),
         Found::Refused(verdict) => pack_refusal(verdict, ONE_LIST),
     }
 }

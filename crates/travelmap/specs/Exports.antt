@@ -1,33 +1,36 @@
--- What each function for C and Rust promises: the answer of the library's function, packed, and the contents of each result at exit.
+-- What each function for C and Rust promises: what the library's function comes to, packed, and the contents of each result at exit.
+--   Exported                                              the packed answer, and what the results hold at exit, of an outcome
 --   CheckPacked, CellPacked, CornerPacked, PlanePacked    the check and the three questions
 --   threeAxes, BoxPacked                                  the box, from its six ends
 --   JoinPacked, SectionPacked, SplitPacked                the join, the section, the split
---   NearestPacked, DistancePacked                         the nearest cell, and how far it is
+--   NearestBy, NearestPacked, DistancePacked              the nearest cell, and how far it is
 use mathlib.Core.Path.{_≡_}
 use mathlib.Core.List.{List, [], _∷_}
 use Prim.Native.Nat.{ℕ}
 use lib.IntN.{ℤ}
-use lib.ListN.{length}
 use Rattle.meaning.specs.Numbers.{Cell, Corner}
-use Rattle.meaning.specs.Verdicts.{verdict}
-use Rattle.boxes.specs.Box.{boxValues, boxContents}
-use Rattle.asks.specs.Asks.{cellAnswer, cornerAnswer, planeEnds}
-use Rattle.joins.specs.Join.{joinValues, joinAnswer, joinContents}
-use Rattle.cuts.specs.Answers.{sectionValues, SectionPromise, splitValues, SplitPromise}
-use Rattle.cuts.specs.declared.Sectioned.{Sectioned}
-use Rattle.cuts.specs.declared.Halved.{Halved}
-use Rattle.nearest.specs.Answer.{outcome, Answered}
-use Rattle.nearest.specs.declared.Found.{Found}
-use Rattle.packing.specs.Packed.{packedVerdict, packedCell, packedCorner, packedPart, packedValues, packedSplit, packedNearest, packedDistance}
+use Rattle.meaning.specs.Outcomes.{Outcome, Nothing}
+use Rattle.meaning.specs.Nearest.{Reached, IsNearest, nearestOutcome}
+use Rattle.lists.specs.Check.{checkOutcome}
+use Rattle.boxes.specs.Box.{boxOutcome}
+use Rattle.asks.specs.Asks.{cellOutcome, cornerOutcome, planeEnds}
+use Rattle.joins.specs.Join.{joinOutcome}
+use Rattle.cuts.specs.Answers.{sectionOutcome, halves, splitOutcome}
+use Rattle.packing.specs.Packed.{packedValues, packedCell, packedCorner, packedPart, packedNearest, packedDistance}
+
+-- an answer that gives nothing beside its values
+pub record Exported {Left : Type 0} (o : Outcome Nothing Left) (r : ℕ) (after : Left) : Type 0 where
+  pub answer : r ≡ packedValues (o .values)
+  pub contents : after ≡ o .left
 
 abbrev pub CheckPacked : List ℤ → ℕ → Type 0
-CheckPacked ns r = r ≡ packedVerdict (verdict ns)
+CheckPacked ns r = r ≡ packedValues (checkOutcome ns .values)
 
 abbrev pub CellPacked : List ℤ → Cell → ℕ → Type 0
-CellPacked ns c r = r ≡ packedCell (cellAnswer ns c)
+CellPacked ns c r = r ≡ packedCell (cellOutcome ns c)
 
 abbrev pub CornerPacked : List ℤ → Corner → ℕ → Type 0
-CornerPacked ns v r = r ≡ packedCorner (cornerAnswer ns v)
+CornerPacked ns v r = r ≡ packedCorner (cornerOutcome ns v)
 
 abbrev pub PlanePacked : List ℤ → ℤ → ℕ → Type 0
 PlanePacked ns x r = r ≡ packedPart (planeEnds ns x)
@@ -36,32 +39,26 @@ PlanePacked ns x r = r ≡ packedPart (planeEnds ns x)
 abbrev pub threeAxes : ℤ → ℤ → ℤ → ℤ → ℤ → ℤ → List (List ℤ)
 threeAxes a a′ b b′ d d′ = (a ∷ a′ ∷ []) ∷ (b ∷ b′ ∷ []) ∷ (d ∷ d′ ∷ []) ∷ []
 
-unfoldable pub BoxPacked : List (List ℤ) → List ℤ → ℕ → List ℤ → Type 0
-BoxPacked ends before r after = (r ≡ packedValues (boxValues ends (length before))) × (after ≡ boxContents ends before)
+abbrev pub BoxPacked : List (List ℤ) → List ℤ → ℕ → List ℤ → Type 0
+BoxPacked ends before r after = Exported (boxOutcome ends before) r after
 
-pub record JoinPacked (op : ℕ) (a b before : List ℤ) (r : ℕ) (after : List ℤ) : Type 0 where
-  pub answer : r ≡ packedValues (joinValues (joinAnswer op a b (length before)))
-  pub contents : after ≡ joinContents op a b before
+abbrev pub JoinPacked : ℕ → List ℤ → List ℤ → List ℤ → ℕ → List ℤ → Type 0
+JoinPacked op a b before r after = Exported (joinOutcome op a b before) r after
 
--- an answer that the promise of section allows is packed so; section allows one alone, with one list at exit
-pub record SectionPacked (ns : List ℤ) (n : ℕ) (k : ℤ) (before : List ℤ) (r : ℕ) (after : List ℤ) : Type 0 where
-  pub made : Sectioned
-  pub allowed : SectionPromise ns n k before made after
-  pub answer : r ≡ packedValues (sectionValues made)
+abbrev pub SectionPacked : List ℤ → ℕ → ℤ → List ℤ → ℕ → List ℤ → Type 0
+SectionPacked ns n k before r after = Exported (sectionOutcome ns n k before) r after
 
--- the same of split, with two lists at exit
-pub record SplitPacked (ns : List ℤ) (n : ℕ) (p : ℤ) (low high : List ℤ) (r : ℕ) (low′ high′ : List ℤ) : Type 0 where
-  pub made : Halved
-  pub allowed : SplitPromise ns n p low high made low′ high′
-  pub answer : r ≡ packedSplit (splitValues made)
+abbrev pub SplitPacked : List ℤ → ℕ → ℤ → List ℤ → List ℤ → ℕ → List ℤ → List ℤ → Type 0
+SplitPacked ns n p low high r low′ high′ = Exported (splitOutcome ns n p low high) r (halves low′ high′)
 
--- an answer that the promise of nearest allows is packed so; nearest allows one alone
-pub record NearestPacked (ns : List ℤ) (w : Cell) (r : ℕ) : Type 0 where
-  pub found : Found
-  pub allowed : Answered ns w found
-  pub answer : r ≡ packedNearest (outcome found)
+-- with a cell that is the nearest, if the list is a map that permits any: what nearest comes to, packed
+pub record NearestBy (pack : Outcome Reached Nothing → ℕ) (ns : List ℤ) (w : Cell) (r : ℕ) : Type 0 where
+  pub at : Cell
+  pub nearest : IsNearest ns w at
+  pub answer : r ≡ pack (nearestOutcome ns w at)
 
-pub record DistancePacked (ns : List ℤ) (w : Cell) (r : ℕ) : Type 0 where
-  pub found : Found
-  pub allowed : Answered ns w found
-  pub answer : r ≡ packedDistance (outcome found)
+abbrev pub NearestPacked : List ℤ → Cell → ℕ → Type 0
+NearestPacked ns w r = NearestBy packedNearest ns w r
+
+abbrev pub DistancePacked : List ℤ → Cell → ℕ → Type 0
+DistancePacked ns w r = NearestBy packedDistance ns w r

@@ -36,7 +36,7 @@ part-result-end : tie.Need-part-result-end
 part-result-end c = omega (arith, within c)
 
 returns : tie.Need-returns
-returns c = plane-said _ _ _ (ends-is (c .before))
+returns c = plane-said _ _ _ _ _ (ends-is (c .before)) (omega arith)
 
 pub plane-spec : {M : Type 1} → statement M
 plane-spec =

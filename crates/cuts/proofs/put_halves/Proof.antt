@@ -1,6 +1,6 @@
 -- `cuts::put_halves` meets its contract: refused where a half does not fit, else both are written.
 use denote.Ref.{now}
-use lib.ListN.{length}
+use Rattle.meaning.specs.Outcomes.{perVertex}
 use Rattle.meaning.proofs.Flags.{said-no, said-yes}
 use Rattle.cuts.proofs.Cuts.{fits-room, low-no-room, high-no-room, halves-done}
 use borrow.Author.Needs.{needs}
@@ -38,14 +38,14 @@ write-requires c κs =
     let at-if1 = c .before .before .before in
     let at-has-room = at-if1 .before in
     let start = at-has-room .before .before .before in
-    (start .pre .0, fits-room _ (length (now (start .args .lower))) _ (said-yes (at-has-room .has-room .ensures) (at-if1 .if1 .left)))
+    (start .pre .0, fits-room perVertex (now (start .args .lower)) _ (said-yes (at-has-room .has-room .ensures) (at-if1 .if1 .left)))
 
 write-requires-2 : tie.Need-write-requires-2
 write-requires-2 c κs =
     let at-if2 = c .before .before .before .before in
     let at-has-room2 = at-if2 .before in
     let start = at-has-room2 .before .before .before .before .before in
-    (start .pre .1, fits-room _ (length (now (start .args .upper))) _ (said-yes (at-has-room2 .has-room2 .ensures) (at-if2 .if2 .left)))
+    (start .pre .1, fits-room perVertex (now (start .args .upper)) _ (said-yes (at-has-room2 .has-room2 .ensures) (at-if2 .if2 .left)))
 
 same-length : tie.Need-same-length
 same-length c = search needs

@@ -2,6 +2,7 @@
 use Prim.Native.Nat.{_*_, _≤_}
 use denote.Ref.{now}
 use lib.ListN.{length}
+use Rattle.meaning.specs.Outcomes.{perPair}
 use Rattle.meaning.proofs.Flags.{said-no, said-yes}
 use Rattle.cuts.proofs.Cuts.{fits-room, pairs-no-room, pairs-done}
 use borrow.Author.Needs.{needs}
@@ -9,7 +10,7 @@ use Rattle.cuts.proofs.put_pairs.Statement.{statement}
 use Rattle.cuts.proofs.put_pairs.Tie as tie
 
 room : (c : tie.Else1) → 2 * length (now (c .before .before .before .args .keys)) ≤ length (now (c .before .before .before .args .out))
-room c = fits-room _ (length (now (c .before .before .before .args .keys))) _ (said-yes (c .before .has-room .ensures) (c .if1 .left))
+room c = fits-room perPair (now (c .before .before .before .args .keys)) _ (said-yes (c .before .has-room .ensures) (c .if1 .left))
 
 mul-has-room : tie.Need-mul-has-room
 mul-has-room c = search needs

@@ -3,7 +3,8 @@ use mathlib.Core.Path.{sym, _∙_, ap}
 use native.Mathlib.Omega.{arith}
 use denote.Ref.{now}
 use lib.Seq.{length-take-le}
-use Rattle.cuts.specs.Answers.{placedPairs}
+use Rattle.meaning.specs.Operations.{pairNumbers}
+use Rattle.meaning.specs.Outcomes.{perPair, placed}
 use borrow.Author.Needs.{needs}
 use Rattle.cuts.proofs.section_with.Statement.{statement}
 use Rattle.cuts.proofs.section_with.Tie as tie
@@ -33,7 +34,7 @@ returns : tie.Need-returns
 returns c =
     let keys = c .before .before .before .before .before .before .before .before in
     let s = keys .before .before .before .before .before in
-    ap (λ ps. placedPairs ps (now (s .args .out))) (sym (keys .section-keys .ensures .members)) ∙ c .before .put-pairs .ensures
+    c .before .put-pairs .ensures ∙ ap (λ ps. placed perPair pairNumbers ps (now (s .args .out))) (keys .section-keys .ensures .members)
 
 pub section-with-spec : {M : Type 1} → statement M
 section-with-spec =

@@ -12,8 +12,10 @@ use Rattle.meaning.specs.declared.Verdict.the-variants.{Valid as Passed}
 use Rattle.meaning.proofs.Checked.{verdict-valid}
 use Rattle.codes.specs.Lift.{lifted}
 use Rattle.meaning.proofs.Flags.{said-no, said-yes}
+use Rattle.lists.proofs.Verdicts.{checked-verdict}
 use Rattle.lists.proofs.Vertices.{length-vertices}
-use Rattle.cuts.proofs.Promises.{inRange, range-low, range-high, split-bad, split-refused, split-made, refused-not}
+use Rattle.cuts.specs.Steps.{inRange}
+use Rattle.cuts.proofs.Promises.{range-low, range-high, split-bad, split-refused, split-made, refused-not}
 use borrow.Author.Needs.{needs}
 use Rattle.cuts.proofs.split.Statement.{statement}
 use Rattle.cuts.proofs.split.Tie as tie
@@ -40,7 +42,7 @@ start c = asked c .before .before .before
 
 -- the list is a travel map
 told : (c : tie.After-enum-told) → verdict (now (start c .args .list)) ≡ Passed
-told c = sym (c .before .before .check .ensures) ∙ c .enum-told .given .1
+told c = sym (checked-verdict _ _ (c .before .before .check .ensures)) ∙ c .enum-told .given .1
 
 valid : (c : tie.After-enum-told) → Valid (vertices (now (start c .args .list)))
 valid c = verdict-valid (now (start c .args .list)) .0 (told c) .1
@@ -105,7 +107,7 @@ returns-4 : tie.Need-returns-4
 returns-4 c =
     let v = c .before .check in
     let a = c .before .before in
-    split-refused _ _ _ _ _ _ (crossed (a .before .before)) (good a) (v .result) (v .ensures) (refused-not (v .result) (c .match .keys2))
+    split-refused _ _ _ _ _ _ (crossed (a .before .before)) (good a) (v .result) (checked-verdict _ _ (v .ensures)) (refused-not (v .result) (c .match .keys2))
 
 pub split-spec : {M : Type 1} → statement M
 split-spec =

@@ -46,9 +46,9 @@ returns c =
     let at-put-halves = c .before .before in
     let keys = at-put-halves .before .before .before .before .before .before .before .before .before .before .before in
     let s = keys .before .before .before .before .before .before .before in
+    at-put-halves .put-halves .ensures ∙
     ap₂ (λ l u. placedHalves l u (now (s .args .low)) (now (s .args .high)))
-    (sym (keys .split-keys .ensures .0 .members)) (sym (keys .split-keys .ensures .1 .members)) ∙
-    at-put-halves .put-halves .ensures
+    (keys .split-keys .ensures .0 .members) (keys .split-keys .ensures .1 .members)
 
 pub split-with-spec : {M : Type 1} → statement M
 split-with-spec =

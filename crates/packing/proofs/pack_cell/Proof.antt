@@ -1,9 +1,8 @@
 -- `packing::pack_cell` meets its contract, case by case.
-use mathlib.Core.Path.{sym, ap, subst, _∙_}
-use Prim.Native.Nat.{_≤_}
-use Rattle.meaning.specs.Lists.{mostVertices}
-use Rattle.asks.specs.Asks.{cellValues}
-use Rattle.packing.specs.Packed.{packedCell}
+use mathlib.Core.Path.{sym, ap, subst}
+use native.Mathlib.Omega.{arith}
+use Rattle.asks.specs.Asks.{cellValues, cellSays}
+use Rattle.packing.specs.Packed.{Few, packedCell}
 use borrow.Author.Needs.{needs}
 use Rattle.packing.proofs.pack_cell.Statement.{statement}
 use Rattle.packing.proofs.pack_cell.Tie as tie
@@ -18,16 +17,16 @@ enum-known-answer : tie.Need-enum-known-answer
 enum-known-answer c = search needs
 
 pack-refusal-requires : tie.Need-pack-refusal-requires
-pack-refusal-requires c κs = subst (λ a. cellValues a .place ≤ mostVertices) (c .before .answer .given .1) (c .before .before .before .pre)
+pack-refusal-requires c κs = subst (λ a. Few (cellValues a)) (c .before .answer .given .1) (c .before .before .before .pre) .place
 
 returns : tie.Need-returns
-returns c = sym (ap packedCell (c .enum-told .given .1))
+returns c = sym (ap (λ a. packedCell (cellSays a)) (c .enum-told .given .1))
 
 returns-2 : tie.Need-returns-2
-returns-2 c = sym (ap packedCell (c .enum-told2 .given .1))
+returns-2 c = sym (ap (λ a. packedCell (cellSays a)) (c .enum-told2 .given .1))
 
 returns-3 : tie.Need-returns-3
-returns-3 c = c .pack-refusal .ensures ∙ sym (ap packedCell (c .before .before .answer .given .1))
+returns-3 c = omega (arith, c .pack-refusal .ensures, ap (λ a. packedCell (cellSays a)) (c .before .before .answer .given .1))
 
 pub pack-cell-spec : {M : Type 1} → statement M
 pack-cell-spec =

@@ -1,10 +1,9 @@
 -- `packing::pack_join` meets its contract, case by case.
 use mathlib.Core.Path.{sym, ap, subst, _∙_}
-use Prim.Native.Nat.{_≤_}
 use native.Mathlib.Omega.{arith}
 use Rattle.meaning.specs.Lists.{mostVertices}
 use Rattle.joins.specs.Join.{joinValues}
-use Rattle.packing.specs.Packed.{packedValues}
+use Rattle.packing.specs.Packed.{Few, packedValues}
 use borrow.Author.Needs.{needs}
 use Rattle.packing.proofs.pack_join.Statement.{statement}
 use Rattle.packing.proofs.pack_join.Tie as tie
@@ -14,10 +13,7 @@ enum-known-answer c = search needs
 
 cast-pack : tie.Need-cast-pack
 unfolding mostVertices
-cast-pack c = let few =
-    let start = c .before .before .before in
-    subst (λ a. (joinValues a .place ≤ mostVertices) × (joinValues a .count ≤ mostVertices)) (c .before .answer .given .1) (start .pre) in omega
-    (arith, few .1)
+cast-pack c = let few = subst (λ a. Few (joinValues a)) (c .before .answer .given .1) (c .before .before .before .pre) in omega (arith, few .count)
 
 pack-requires : tie.Need-pack-requires
 pack-requires c κs = search needs
@@ -32,13 +28,13 @@ enum-known-answer-2 : tie.Need-enum-known-answer-2
 enum-known-answer-2 c = search needs
 
 pack-refusal-requires : tie.Need-pack-refusal-requires
-pack-refusal-requires c κs = subst (λ a. joinValues a .place ≤ mostVertices) (c .before .answer2 .given .1) (c .before .before .before .pre .0)
+pack-refusal-requires c κs = subst (λ a. Few (joinValues a)) (c .before .answer2 .given .1) (c .before .before .before .pre) .place
 
 enum-known-answer-3 : tie.Need-enum-known-answer-3
 enum-known-answer-3 c = search needs
 
 pack-refusal-requires-2 : tie.Need-pack-refusal-requires-2
-pack-refusal-requires-2 c κs = subst (λ a. joinValues a .place ≤ mostVertices) (c .before .answer3 .given .1) (c .before .before .before .pre .0)
+pack-refusal-requires-2 c κs = subst (λ a. Few (joinValues a)) (c .before .answer3 .given .1) (c .before .before .before .pre) .place
 
 enum-told-2 : tie.Need-enum-told-2
 enum-told-2 c = search needs

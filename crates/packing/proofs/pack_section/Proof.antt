@@ -1,10 +1,9 @@
 -- `packing::pack_section` meets its contract, case by case.
 use mathlib.Core.Path.{sym, ap, subst, _∙_}
-use Prim.Native.Nat.{_≤_}
 use native.Mathlib.Omega.{arith}
 use Rattle.meaning.specs.Lists.{mostVertices}
 use Rattle.cuts.specs.Answers.{sectionValues}
-use Rattle.packing.specs.Packed.{packedValues}
+use Rattle.packing.specs.Packed.{Few, packedValues}
 use borrow.Author.Needs.{needs}
 use Rattle.packing.proofs.pack_section.Statement.{statement}
 use Rattle.packing.proofs.pack_section.Tie as tie
@@ -14,7 +13,7 @@ enum-known-answer c = search needs
 
 cast-pack : tie.Need-cast-pack
 unfolding mostVertices
-cast-pack c = let few = subst (λ a. sectionValues a .count ≤ mostVertices) (c .before .answer .given .1) (c .before .before .before .pre .1) in omega arith
+cast-pack c = let few = subst (λ a. Few (sectionValues a)) (c .before .answer .given .1) (c .before .before .before .pre) in omega (arith, few .count)
 
 pack-requires : tie.Need-pack-requires
 pack-requires c κs = search needs
@@ -29,7 +28,7 @@ enum-known-answer-2 : tie.Need-enum-known-answer-2
 enum-known-answer-2 c = search needs
 
 pack-refusal-requires : tie.Need-pack-refusal-requires
-pack-refusal-requires c κs = subst (λ a. sectionValues a .place ≤ mostVertices) (c .before .answer2 .given .1) (c .before .before .before .pre .0)
+pack-refusal-requires c κs = subst (λ a. Few (sectionValues a)) (c .before .answer2 .given .1) (c .before .before .before .pre) .place
 
 enum-told-2 : tie.Need-enum-told-2
 enum-told-2 c = search needs

@@ -1,29 +1,23 @@
 -- `packing::pack_split` meets its contract, case by case.
 use mathlib.Core.Path.{sym, ap, subst, _∙_}
-use Prim.Native.Nat.{_≤_}
 use native.Mathlib.Omega.{arith}
 use Rattle.meaning.specs.Lists.{mostVertices}
 use Rattle.cuts.specs.Answers.{splitValues}
-use Rattle.cuts.specs.declared.Halved.{Halved}
-use Rattle.packing.specs.Packed.{packedSplit}
+use Rattle.packing.specs.Packed.{Few, packedValues}
 use borrow.Author.Needs.{needs}
 use Rattle.packing.proofs.pack_split.Statement.{statement}
 use Rattle.packing.proofs.pack_split.Tie as tie
-
--- what the function requires of an answer
-abbrev Few : Halved → Type 0
-Few a = (splitValues a .place ≤ mostVertices) × (splitValues a .lowCount ≤ mostVertices) × (splitValues a .highCount ≤ mostVertices)
 
 enum-known-answer : tie.Need-enum-known-answer
 enum-known-answer c = search needs
 
 cast-pack : tie.Need-cast-pack
 unfolding mostVertices
-cast-pack c = let few = subst Few (c .before .answer .given .1) (c .before .before .before .pre) in omega (arith, few .1, few .2)
+cast-pack c = let few = subst (λ a. Few (splitValues a)) (c .before .answer .given .1) (c .before .before .before .pre) in omega (arith, few .count, few .second)
 
 cast-pack-2 : tie.Need-cast-pack-2
 unfolding mostVertices
-cast-pack-2 c = let few = subst Few (c .before .answer .given .1) (c .before .before .before .pre) in omega (arith, few .1, few .2)
+cast-pack-2 c = let few = subst (λ a. Few (splitValues a)) (c .before .answer .given .1) (c .before .before .before .pre) in omega (arith, few .count, few .second)
 
 pack-requires : tie.Need-pack-requires
 pack-requires c κs = search needs
@@ -38,7 +32,7 @@ enum-known-answer-2 : tie.Need-enum-known-answer-2
 enum-known-answer-2 c = search needs
 
 pack-refusal-requires : tie.Need-pack-refusal-requires
-pack-refusal-requires c κs = subst Few (c .before .answer2 .given .1) (c .before .before .before .pre) .0
+pack-refusal-requires c κs = subst (λ a. Few (splitValues a)) (c .before .answer2 .given .1) (c .before .before .before .pre) .place
 
 enum-told-2 : tie.Need-enum-told-2
 enum-told-2 c = search needs
@@ -53,19 +47,19 @@ pack-requires-4 : tie.Need-pack-requires-4
 pack-requires-4 c κs = search needs
 
 returns : tie.Need-returns
-returns c = c .pack .ensures ∙ sym (ap (λ a. packedSplit (splitValues a)) (c .before .before .answer .given .1))
+returns c = c .pack .ensures ∙ sym (ap (λ a. packedValues (splitValues a)) (c .before .before .answer .given .1))
 
 returns-2 : tie.Need-returns-2
-returns-2 c = c .pack2 .ensures ∙ sym (ap (λ a. packedSplit (splitValues a)) (c .before .enum-told .given .1))
+returns-2 c = c .pack2 .ensures ∙ sym (ap (λ a. packedValues (splitValues a)) (c .before .enum-told .given .1))
 
 returns-3 : tie.Need-returns-3
-returns-3 c = c .pack-refusal .ensures ∙ sym (ap (λ a. packedSplit (splitValues a)) (c .before .before .answer2 .given .1))
+returns-3 c = c .pack-refusal .ensures ∙ sym (ap (λ a. packedValues (splitValues a)) (c .before .before .answer2 .given .1))
 
 returns-4 : tie.Need-returns-4
-returns-4 c = c .pack3 .ensures ∙ sym (ap (λ a. packedSplit (splitValues a)) (c .before .enum-told2 .given .1))
+returns-4 c = c .pack3 .ensures ∙ sym (ap (λ a. packedValues (splitValues a)) (c .before .enum-told2 .given .1))
 
 returns-5 : tie.Need-returns-5
-returns-5 c = c .pack4 .ensures ∙ sym (ap (λ a. packedSplit (splitValues a)) (c .before .enum-told3 .given .1))
+returns-5 c = c .pack4 .ensures ∙ sym (ap (λ a. packedValues (splitValues a)) (c .before .enum-told3 .given .1))
 
 pub pack-split-spec : {M : Type 1} → statement M
 pack-split-spec =

@@ -1,25 +1,19 @@
 -- `travelmap::travelmap_nearest` meets its contract: the answer of nearest is packed.
-use Rattle.meaning.specs.Numbers.{cell}
-use Rattle.nearest.specs.Answer.{Answered}
-use Rattle.travelmap.proofs.Passing.{wish-back}
+use Rattle.travelmap.proofs.Passing.{found-fits, found-packed}
 use borrow.Author.Needs.{needs}
 use Rattle.travelmap.proofs.travelmap_nearest.Statement.{statement}
 use Rattle.travelmap.proofs.travelmap_nearest.Tie as tie
-
-allowed : (c : tie.After-nearest) → Answered (c .before .args .list .now) (cell (c .before .args .focus) (c .before .args .first) (c .before .args .second)) (c .nearest .result)
-allowed c =
-    let a = c .before .args in
-    let f = c .before .fits in
-    wish-back (a .list .now) (c .nearest .result) (a .focus) (a .first) (a .second) (f .focus) (f .first) (f .second) (c .nearest .ensures)
 
 nearest-requires : tie.Need-nearest-requires
 nearest-requires c κs = search needs
 
 pack-nearest-requires : tie.Need-pack-nearest-requires
-pack-nearest-requires c κs = search needs
+pack-nearest-requires c κs = found-fits _ _ _ (c .nearest .ensures)
 
 returns : tie.Need-returns
-returns c = record { found = c .before .nearest .result; allowed = allowed (c .before); answer = c .pack-nearest .ensures }
+returns c =
+    let f = c .before .before .fits in
+    found-packed _ _ _ _ _ _ (f .focus) (f .first) (f .second) _ (c .before .nearest .ensures) (c .pack-nearest .ensures)
 
 pub travelmap-nearest-spec : {M : Type 1} → statement M
 travelmap-nearest-spec = tie.close (tie.spec nearest-requires pack-nearest-requires returns)

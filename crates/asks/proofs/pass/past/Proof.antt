@@ -1,5 +1,6 @@
 -- `asks::pass::past` meets its contract. The invariant: the vertices passed, with those that are left below the bound, are all from the start.
 use Prim.Native.Nat.{_≤_, _+_, _-_}
+use native.Mathlib.Omega.{arith}
 use lib.ListN.{length}
 use Rattle.asks.proofs.Planes.{PastSoFar, past-first, past-next, past-stop, past-end}
 use borrow.Author.Needs.{needs}
@@ -25,7 +26,7 @@ cast-focus : tie.Need-cast-focus Inv-loop μ-loop
 cast-focus c = search needs
 
 returns : tie.Need-returns Inv-loop μ-loop
-returns c = past-stop _ _ _ _ _ (c .before .before .loop-test .taken) (c .before .lift-at .ensures) (c .if1 .taken) (c .before .before .before .loop .inv .1)
+returns c = past-stop _ _ _ _ _ (c .before .before .loop-test .taken) (c .before .lift-at .ensures) (omega arith) (c .before .before .before .loop .inv .1)
 
 add-i : tie.Need-add-i Inv-loop μ-loop
 add-i c = search needs
@@ -37,7 +38,7 @@ loop-again : tie.Need-loop-again Inv-loop μ-loop
 loop-again c =
     let at-loop-test = c .before .before in
     let turn = at-loop-test .before in
-    (search needs, past-next _ _ _ _ _ (at-loop-test .loop-test .taken) (c .before .lift-at .ensures) (c .if1 .left) (turn .loop .inv .1))
+    (search needs, past-next _ _ _ _ _ (at-loop-test .loop-test .taken) (c .before .lift-at .ensures) (omega arith) (turn .loop .inv .1))
 
 returns-2 : tie.Need-returns-2 Inv-loop μ-loop
 returns-2 c = past-end _ _ _ _ (c .loop-test .left) (c .before .loop .inv .1)
