@@ -17,7 +17,8 @@ use Rattle.meaning.specs.Numbers.{Cell, Corner, cell}
 use Rattle.meaning.specs.Lists.{permitted}
 use Rattle.meaning.specs.Outcomes.{emptyMap}
 use Rattle.meaning.specs.Nearest.{Nearest}
-use Rattle.frames.specs.Frames.{word, lineEnd, twoDigits, fourDigits}
+use Rattle.words.specs.Words.{word}
+use Rattle.frames.specs.Frames.{lineEnd, twoDigits, fourDigits}
 
 -- ---- lines
 

@@ -61,9 +61,9 @@ fn refusal_line(number: usize, place: usize) -> [u8; REFUSAL_LINE]
 fn cell_line(focus: i16, first: i16, second: i16) -> [u8; ANSWER_LINE]
     ensures { λ r. ⌜ r ≡ cellLine (cell focus first second) ⌝ }
 {
-    let x = four_digits(frames::word(focus) as usize);
-    let y = four_digits(frames::word(first) as usize);
-    let z = four_digits(frames::word(second) as usize);
+    let x = four_digits(words::word(focus) as usize);
+    let y = four_digits(words::word(first) as usize);
+    let z = four_digits(words::word(second) as usize);
     [
         ZERO,
         ANSWER_TAG,

@@ -4,7 +4,7 @@
 --   four-ill, four-whole     four digits of which one is none; four digits
 --   line-..                  a line at a place, by what is found there; where there is one, its bytes are there
 --   together-..              three numbers of which one is ill formed
---   signed-low, signed-high, word-low, word-high    two's complement by the crossing of `codes`
+--   digit-low, digit-high    the digit of four bits
 use mathlib.Core.Path.{_≡_, refl, sym, _∙_, ap}
 use mathlib.Core.Bool.{true, false}
 use mathlib.Core.List.{List}
@@ -12,18 +12,13 @@ use Prim.Native.Nat.{ℕ, suc, _+_, _-_, _*_, _≤_, _<_}
 use native.Mathlib.Omega.{arith}
 use borrow.Author.Tests.{lt-ltb, le-ltb, lt-leb, le-leb, leb-true, eq-eqb, ne-eqb}
 use lib.Dec.{leb, eqb}
-use lib.IntN.{ℤ, pos, negsuc}
 use lib.ListN.{length}
-use mir.Syntax.{w16}
-use mir.Val.{SFits}
-use Rattle.codes.specs.Lift.{lifted, lowered}
-use Rattle.codes.proofs.Shift.{down-not, down-below}
 use Rattle.codes.proofs.Tests.{and-both}
 use Rattle.frames.specs.declared.One.{One}
 use Rattle.frames.specs.declared.One.the-variants.{Ill, Number}
 use Rattle.frames.specs.declared.Three.the-variants.{Ill as Ill³, Numbers}
 use Rattle.frames.specs.Frames.{digit0, digit9, digitA, digitF, lineEnd, byteAt, digitValue, fourOf, fourAt, lineAt, together}
-use Rattle.frames.specs.Frames.{oneAt, threeAt, signed, word, digitOf}
+use Rattle.frames.specs.Frames.{oneAt, threeAt, digitOf}
 
 -- ---- digits
 
@@ -134,26 +129,6 @@ module _ (s : List ℕ) (tag at : ℕ) (line : lineAt s tag 12 at ≡ true) {o :
 
       pub three-whole : {c : ℕ} → q ≡ Number c → Numbers a b c ≡ threeAt s tag at
       three-whole {c} e = three-is s tag at line (Number a) (Number b) (Number c) (sym ea ∙ eo) (sym eb ∙ ep) (sym e ∙ eq)
-
--- ---- two's complement
-
-pub signed-low : (n : ℕ) → n < 32768 → lowered (n + 32768) ≡ signed n
-signed-low n h =
-    let back : n + 32768 - 32768 ≡ n = omega arith in
-    down-not (n + 32768) 32768 (omega arith) ∙ ap pos back ∙ rw (lt-ltb n 32768 h)
-
-pub signed-high : (n : ℕ) → 32768 ≤ n → n < 65536 → lowered (n - 32768) ≡ signed n
-signed-high n h k =
-    let back : 32768 - suc (n - 32768) ≡ 65536 - suc n = omega arith in
-    down-below (n - 32768) 32768 (omega arith) ∙ ap negsuc back ∙ sym (down-below n 65536 k) ∙ rw (le-ltb n 32768 h)
-
-pub word-low : (z : ℤ) → SFits w16 z → lifted z < 32768 → lifted z + 32768 ≡ word z
-word-low (pos n) f h = absurd (omega arith)
-word-low (negsuc n) f h = omega (arith, f .sfits)
-
-pub word-high : (z : ℤ) → SFits w16 z → 32768 ≤ lifted z → lifted z - 32768 ≡ word z
-word-high (pos n) f h = omega arith
-word-high (negsuc n) f h = absurd (omega arith)
 
 -- ---- the digit of four bits
 

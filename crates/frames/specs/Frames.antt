@@ -5,7 +5,6 @@
 --   fourOf, fourAt           the number that four digits make; the four digits at a place
 --   lineAt                   a line of a tag, 0 and one digit, and so many digits more, whose 0A stands where it is due
 --   oneAt, threeAt           the number, and the three numbers, of the frame at a place; ill formed if there is no such frame
---   signed, word             a number in two's complement, and its four digits as a number without sign
 --   digitOf                  the digit of a value below 16
 --   twoDigits, fourDigits    a number as two and as four digits
 -- A place counts the bytes before it. Tags are given by the byte of their second digit.
@@ -13,7 +12,6 @@ use mathlib.Core.Bool.{Bool, _&&_, cond}
 use mathlib.Core.List.{List, [], _∷_}
 use Prim.Native.Nat.{ℕ, _+_, _-_, _*_, _/_, _%_}
 use lib.Dec.{ltb, leb, eqb}
-use lib.IntN.{ℤ, pos, negsuc, subℕ}
 use lib.ListN.{length, getD}
 use Rattle.frames.specs.declared.One.{One}
 use Rattle.frames.specs.declared.One.the-variants.{Ill, Number}
@@ -70,15 +68,6 @@ together Ill o p = Ill³
 
 abbrev pub threeAt : List ℕ → ℕ → ℕ → Three
 threeAt s tag at = cond (lineAt s tag 12 at) (together (fourAt s (at + 2)) (fourAt s (at + 6)) (fourAt s (at + 10))) Ill³
-
--- FFFD is -3
-abbrev pub signed : ℕ → ℤ
-signed n = cond (ltb n 32768) (pos n) (subℕ n 65536)
-
--- -3 is FFFD
-abbrev pub word : ℤ → ℕ
-word (pos n) = n
-word (negsuc n) = 65535 - n
 
 abbrev pub digitOf : ℕ → ℕ
 digitOf d = cond (ltb d 10) (digit0 + d) (digitA + (d - 10))

@@ -18,7 +18,8 @@ use Rattle.meaning.specs.Counting.{first}
 use Rattle.meaning.proofs.First.{first-is, is-first}
 use Rattle.frames.specs.declared.Three.{Three}
 use Rattle.frames.specs.declared.Three.the-variants.{Ill, Numbers}
-use Rattle.frames.specs.Frames.{longLine, threeAt, signed}
+use Rattle.frames.specs.Frames.{longLine, threeAt}
+use Rattle.words.specs.Words.{signed}
 use Rattle.reading.specs.Reading.{isIll, numbersOf, illAt, numbersFrom}
 
 pub record Run (s : List ℕ) (tag start n : ℕ) (before now : List ℤ) (i : ℕ) : Type 0 where

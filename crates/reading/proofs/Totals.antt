@@ -24,7 +24,8 @@ use Rattle.codes.proofs.Shift.{down-not, down-below}
 use Rattle.frames.specs.declared.One.{One}
 use Rattle.frames.specs.declared.One.the-variants.{Ill, Number}
 use Rattle.frames.specs.declared.Three.the-variants.{Ill as Ill³}
-use Rattle.frames.specs.Frames.{longLine, byteAt, digitValue, fourOf, fourAt, lineAt, together, threeAt, signed, word}
+use Rattle.frames.specs.Frames.{longLine, byteAt, digitValue, fourOf, fourAt, lineAt, together, threeAt}
+use Rattle.words.specs.Words.{word, signed}
 use Rattle.reading.specs.Reading.{numbersOf, numbersFrom, total, closingSum}
 use Rattle.reading.proofs.ByEnds.{all-four}
 

@@ -26,19 +26,20 @@ use Rattle.frames.specs.declared.One.{One}
 use Rattle.frames.specs.declared.One.the-variants.{Ill as Ill¹, Number}
 use Rattle.frames.specs.declared.Three.{Three}
 use Rattle.frames.specs.declared.Three.the-variants.{Ill, Numbers}
-use Rattle.frames.specs.Frames.{shortLine, longLine, oneAt, threeAt, signed, word}
+use Rattle.frames.specs.Frames.{digit0, shortLine, longLine, oneAt, threeAt}
+use Rattle.words.specs.Words.{allWords, word, signed}
 
 abbrev pub countTag : ℕ
-countTag = 49
+countTag = digit0 + 1
 
 abbrev pub vertexTag : ℕ
-vertexTag = 50
+vertexTag = digit0 + 2
 
 abbrev pub sumTag : ℕ
-sumTag = 51
+sumTag = digit0 + 3
 
 abbrev pub wishTag : ℕ
-wishTag = 52
+wishTag = digit0 + 4
 
 abbrev pub tooMany : ℕ
 tooMany = refusalNumber TooMany
@@ -84,7 +85,7 @@ total [] = 0
 total (z ∷ l) = word z + total l
 
 abbrev pub closingSum : ℕ → List ℤ → ℕ
-closingSum n ns = (n + total ns) % 65536
+closingSum n ns = (n + total ns) % allWords
 
 abbrev pub byVerdict : List ℤ → Verdict → Text
 byVerdict ns v = cond (passes v) (whole ns) (refused (refusalNumber v) (refusalPlace v))
