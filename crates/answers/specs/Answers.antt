@@ -1,4 +1,5 @@
 -- The lines that the program writes (document 01, "Map text and the program").
+--   refusalBytes, answerBytes   how many bytes an 06 line has, and an 05 line
 --   refusalLine           an 06 line
 --   cellLine, emptyLine   the 05 line of a cell, and the one that the empty map gets
 --   wishAt                wish i
@@ -14,10 +15,19 @@ use lib.IntN.{ℤ, pos}
 use lib.ListN.{length, getD, take, drop}
 use Rattle.meaning.specs.Numbers.{Cell, Corner, cell}
 use Rattle.meaning.specs.Lists.{permitted}
+use Rattle.meaning.specs.Outcomes.{emptyMap}
 use Rattle.meaning.specs.Nearest.{Nearest}
-use Rattle.frames.specs.Frames.{word, lineEnd, twoDigits, fourDigits}
+use Rattle.words.specs.Words.{word}
+use Rattle.frames.specs.Frames.{lineEnd, twoDigits, fourDigits}
 
 -- ---- lines
+
+-- a tag and a number of two digits each, four digits for the place or for each code, and the 0A
+abbrev pub refusalBytes : ℕ
+refusalBytes = 9
+
+abbrev pub answerBytes : ℕ
+answerBytes = 17
 
 abbrev pub refusalLine : ℕ → ℕ → List ℕ
 refusalLine number place = twoDigits 6 ++ (twoDigits number ++ (fourDigits place ++ (lineEnd ∷ [])))
@@ -32,7 +42,7 @@ cellLine c = answerLine 0 c
 
 -- 0507000000000000
 abbrev pub emptyLine : List ℕ
-emptyLine = answerLine 7 (cell (pos 0) (pos 0) (pos 0))
+emptyLine = answerLine (emptyMap .number) (cell (pos 0) (pos 0) (pos 0))
 
 -- ---- answers
 
@@ -66,6 +76,6 @@ abbrev pub Filled : List ℕ → List ℕ → ℕ → List ℕ → Type 0
 Filled line before n after = (n ≡ length line) × (after ≡ line ++ drop n before)
 
 pub record Written (l : List Corner) (ws : List ℤ) (n : ℕ) (before after : List ℕ) : Type 0 where
-  pub front : Answers l ws n (take (17 * n) after)
-  pub behind : drop (17 * n) after ≡ drop (17 * n) before
+  pub front : Answers l ws n (take (answerBytes * n) after)
+  pub behind : drop (answerBytes * n) after ≡ drop (answerBytes * n) before
   pub long : length after ≡ length before

@@ -7,7 +7,8 @@ ghost use Rattle.meaning.specs.Numbers.{cell};
 ghost use Rattle.meaning.specs.Lists.{vertices};
 ghost use Rattle.meaning.specs.Verdicts.{verdict};
 ghost use Rattle.frames.specs.Frames.{fourDigits};
-ghost use Rattle.answers.specs.Answers.{refusalLine, cellLine, emptyLine, wishAt, AnswerLine, Filled, Written};
+ghost use Rattle.answers.specs.Answers.{refusalBytes, answerBytes, refusalLine, cellLine, emptyLine};
+ghost use Rattle.answers.specs.Answers.{wishAt, AnswerLine, Filled, Written};
 use frames::DIGITS;
 use frames::LINE_END;
 use frames::NUMBERS;
@@ -60,9 +61,9 @@ fn refusal_line(number: usize, place: usize) -> [u8; REFUSAL_LINE]
 fn cell_line(focus: i16, first: i16, second: i16) -> [u8; ANSWER_LINE]
     ensures { λ r. ⌜ r ≡ cellLine (cell focus first second) ⌝ }
 {
-    let x = four_digits(frames::word(focus) as usize);
-    let y = four_digits(frames::word(first) as usize);
-    let z = four_digits(frames::word(second) as usize);
+    let x = four_digits(words::word(focus) as usize);
+    let y = four_digits(words::word(first) as usize);
+    let z = four_digits(words::word(second) as usize);
     [
         ZERO,
         ANSWER_TAG,
@@ -112,7 +113,8 @@ fn empty_line() -> [u8; ANSWER_LINE]
 // Writes a line at a place of the output.
 fn put(line: &[u8], at: usize, out: &mut [u8])
     requires { ⌜ at + length (now line) ≤ length (now out) ⌝ }
-    ensures { λ r. ⌜ now (out .exit) ≡ paste (now (out .entry)) at (now (line .entry)) (length (now (line .entry))) ⌝ }
+    ensures { λ r. ⌜ now (out .exit) ≡
+        paste (now (out .entry)) at (now (line .entry)) (length (now (line .entry))) ⌝ }
 {
     let mut i = 0;
     while i < line.len() {
@@ -123,7 +125,7 @@ fn put(line: &[u8], at: usize, out: &mut [u8])
 
 // Writes the 06 line of a refusal; answers how many bytes it has.
 pub fn refuse(number: usize, place: usize, out: &mut [u8]) -> usize
-    requires { ⌜ 9 ≤ length (now out) ⌝ }
+    requires { ⌜ refusalBytes ≤ length (now out) ⌝ }
     ensures { λ r. ⌜ Filled (refusalLine number place) (now (out .entry)) r (now (out .exit)) ⌝ }
 {
     let line = refusal_line(number, place);
@@ -148,9 +150,11 @@ fn answer(list: &[i16], wishes: &[i16], i: usize) -> [u8; ANSWER_LINE]
 // Writes an 05 line for each wish, in order; answers how many bytes they have.
 pub fn answer_all(list: &[i16], wishes: &[i16], out: &mut [u8]) -> usize
     requires { ⌜ verdict (now list) ≡ Verdict.Valid ⌝ }
-    requires { ⌜ 17 * (length (now wishes) / 3) ≤ length (now out) ⌝ }
-    ensures { λ r. ⌜ r ≡ 17 * (length (now (wishes .entry)) / 3) ⌝ }
-    ensures { λ r. ⌜ Written (vertices (now (list .entry))) (now (wishes .entry)) (length (now (wishes .entry)) / 3) (now (out .entry)) (now (out .exit)) ⌝ }
+    requires { ⌜ answerBytes * (length (now wishes) / 3) ≤ length (now out) ⌝ }
+    ensures { λ r. ⌜ r ≡ answerBytes * (length (now (wishes .entry)) / 3) ⌝ }
+    ensures { λ r. ⌜ Written (vertices (now (list .entry)))
+        (now (wishes .entry)) (length (now (wishes .entry)) / 3)
+        (now (out .entry)) (now (out .exit)) ⌝ }
 {
     let n = wishes.len() / NUMBERS;
     let mut i = 0;

@@ -4,7 +4,7 @@
 --   four-ill, four-whole     four digits of which one is none; four digits
 --   line-..                  a line at a place, by what is found there; where there is one, its bytes are there
 --   together-..              three numbers of which one is ill formed
---   signed-low, signed-high, word-low, word-high    two's complement by the crossing of `codes`
+--   digit-low, digit-high    the digit of four bits
 use mathlib.Core.Path.{_≡_, refl, sym, _∙_, ap}
 use mathlib.Core.Bool.{true, false}
 use mathlib.Core.List.{List}
@@ -12,35 +12,33 @@ use Prim.Native.Nat.{ℕ, suc, _+_, _-_, _*_, _≤_, _<_}
 use native.Mathlib.Omega.{arith}
 use borrow.Author.Tests.{lt-ltb, le-ltb, lt-leb, le-leb, leb-true, eq-eqb, ne-eqb}
 use lib.Dec.{leb, eqb}
-use lib.IntN.{ℤ, pos, negsuc}
 use lib.ListN.{length}
-use mir.Syntax.{w16}
-use mir.Val.{SFits}
-use Rattle.codes.specs.Lift.{lifted, lowered}
-use Rattle.codes.proofs.Shift.{down-not, down-below}
 use Rattle.codes.proofs.Tests.{and-both}
 use Rattle.frames.specs.declared.One.{One}
 use Rattle.frames.specs.declared.One.the-variants.{Ill, Number}
 use Rattle.frames.specs.declared.Three.the-variants.{Ill as Ill³, Numbers}
-use Rattle.frames.specs.Frames.{zero, lineEnd, byteAt, digitValue, fourOf, fourAt, lineAt, together, oneAt, threeAt, signed, word, digitOf}
+use Rattle.frames.specs.Frames.{digit0, digit9, digitA, digitF, lineEnd, byteAt, digitValue, fourOf, fourAt, lineAt, together}
+use Rattle.frames.specs.Frames.{oneAt, threeAt, digitOf}
 
 -- ---- digits
 
 module _ (b : ℕ) where
-  pub value-under : b < 48 → 16 ≡ digitValue b
-  value-under h = rw (lt-leb 48 b h, lt-leb 65 b (omega arith))
+  pub value-under : b < digit0 → 16 ≡ digitValue b
+  value-under h = rw (lt-leb digit0 b h, lt-leb digitA b (omega arith))
 
-  pub value-lower : 48 ≤ b → b ≤ 57 → b - 48 ≡ digitValue b
-  value-lower h k = rw (le-leb 48 b h, le-leb b 57 k)
+  pub value-lower : digit0 ≤ b → b ≤ digit9 → b - digit0 ≡ digitValue b
+  value-lower h k = rw (le-leb digit0 b h, le-leb b digit9 k)
 
-  pub value-between : 57 < b → b < 65 → 16 ≡ digitValue b
-  value-between h k = rw (le-leb 48 b (omega arith), lt-leb b 57 h, lt-leb 65 b k)
+  pub value-between : digit9 < b → b < digitA → 16 ≡ digitValue b
+  value-between h k = rw (le-leb digit0 b (omega arith), lt-leb b digit9 h, lt-leb digitA b k)
 
-  pub value-upper : 65 ≤ b → b ≤ 70 → b - 55 ≡ digitValue b
-  value-upper h k = rw (le-leb 48 b (omega arith), lt-leb b 57 (omega arith), le-leb 65 b h, le-leb b 70 k)
+  pub value-upper : digitA ≤ b → b ≤ digitF → b - (digitA - 10) ≡ digitValue b
+  value-upper h k =
+      let is : b - (digitA - 10) ≡ 10 + (b - digitA) = omega arith in
+      is ∙ rw (le-leb digit0 b (omega arith), lt-leb b digit9 (omega arith), le-leb digitA b h, le-leb b digitF k)
 
-  pub value-over : 70 < b → 16 ≡ digitValue b
-  value-over h = rw (le-leb 48 b (omega arith), lt-leb b 57 (omega arith), le-leb 65 b (omega arith), lt-leb b 70 h)
+  pub value-over : digitF < b → 16 ≡ digitValue b
+  value-over h = rw (le-leb digit0 b (omega arith), lt-leb b digit9 (omega arith), le-leb digitA b (omega arith), lt-leb b digitF h)
 
 -- ---- four digits
 
@@ -90,17 +88,17 @@ module _ (s : List ℕ) (tag digits at : ℕ) where
     is-long : leb (at + digits + 3) (length s) ≡ true
     is-long = le-leb (at + digits + 3) (length s) (omega arith)
 
-    pub line-no-zero : (byteAt s at ≡ zero → ⊥) → false ≡ lineAt s tag digits at
+    pub line-no-zero : (byteAt s at ≡ digit0 → ⊥) → false ≡ lineAt s tag digits at
     unfolding lineAt
-    line-no-zero h = rw (is-long, ne-eqb (byteAt s at) zero h)
+    line-no-zero h = rw (is-long, ne-eqb (byteAt s at) digit0 h)
 
-    pub line-other : byteAt s at ≡ zero → (byteAt s (at + 1) ≡ tag → ⊥) → false ≡ lineAt s tag digits at
+    pub line-other : byteAt s at ≡ digit0 → (byteAt s (at + 1) ≡ tag → ⊥) → false ≡ lineAt s tag digits at
     unfolding lineAt
-    line-other h k = rw (is-long, eq-eqb (byteAt s at) zero h, ne-eqb (byteAt s (at + 1)) tag k)
+    line-other h k = rw (is-long, eq-eqb (byteAt s at) digit0 h, ne-eqb (byteAt s (at + 1)) tag k)
 
-    pub line-ends : byteAt s at ≡ zero → byteAt s (at + 1) ≡ tag → eqb (byteAt s (at + 2 + digits)) lineEnd ≡ lineAt s tag digits at
+    pub line-ends : byteAt s at ≡ digit0 → byteAt s (at + 1) ≡ tag → eqb (byteAt s (at + 2 + digits)) lineEnd ≡ lineAt s tag digits at
     unfolding lineAt
-    line-ends h k = rw (is-long, eq-eqb (byteAt s at) zero h, eq-eqb (byteAt s (at + 1)) tag k)
+    line-ends h k = rw (is-long, eq-eqb (byteAt s at) digit0 h, eq-eqb (byteAt s (at + 1)) tag k)
 
 -- ---- three numbers
 
@@ -132,30 +130,12 @@ module _ (s : List ℕ) (tag at : ℕ) (line : lineAt s tag 12 at ≡ true) {o :
       pub three-whole : {c : ℕ} → q ≡ Number c → Numbers a b c ≡ threeAt s tag at
       three-whole {c} e = three-is s tag at line (Number a) (Number b) (Number c) (sym ea ∙ eo) (sym eb ∙ ep) (sym e ∙ eq)
 
--- ---- two's complement
-
-pub signed-low : (n : ℕ) → n < 32768 → lowered (n + 32768) ≡ signed n
-signed-low n h =
-    let back : n + 32768 - 32768 ≡ n = omega arith in
-    down-not (n + 32768) 32768 (omega arith) ∙ ap pos back ∙ rw (lt-ltb n 32768 h)
-
-pub signed-high : (n : ℕ) → 32768 ≤ n → n < 65536 → lowered (n - 32768) ≡ signed n
-signed-high n h k =
-    let back : 32768 - suc (n - 32768) ≡ 65536 - suc n = omega arith in
-    down-below (n - 32768) 32768 (omega arith) ∙ ap negsuc back ∙ sym (down-below n 65536 k) ∙ rw (le-ltb n 32768 h)
-
-pub word-low : (z : ℤ) → SFits w16 z → lifted z < 32768 → lifted z + 32768 ≡ word z
-word-low (pos n) f h = absurd (omega arith)
-word-low (negsuc n) f h = omega (arith, f .sfits)
-
-pub word-high : (z : ℤ) → SFits w16 z → 32768 ≤ lifted z → lifted z - 32768 ≡ word z
-word-high (pos n) f h = omega arith
-word-high (negsuc n) f h = absurd (omega arith)
-
 -- ---- the digit of four bits
 
-pub digit-low : (d : ℕ) → d < 10 → 48 + d ≡ digitOf d
+pub digit-low : (d : ℕ) → d < 10 → digit0 + d ≡ digitOf d
 digit-low d h = rw (lt-ltb d 10 h)
 
-pub digit-high : (d : ℕ) → 10 ≤ d → 55 + d ≡ digitOf d
-digit-high d h = rw (le-ltb d 10 h)
+pub digit-high : (d : ℕ) → 10 ≤ d → digitA - 10 + d ≡ digitOf d
+digit-high d h =
+    let is : digitA - 10 + d ≡ digitA + (d - 10) = omega arith in
+    is ∙ rw (le-ltb d 10 h)

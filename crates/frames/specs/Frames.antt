@@ -1,10 +1,10 @@
 -- Frames as bytes: a line of upper-case hexadecimal, ended by byte 0A (document 01, "Map text and the program").
---   zero, lineEnd            the bytes of the digit 0 and of a line's end
+--   digit0, digit9, digitA, digitF, lineEnd    the bytes of the digits 0, 9, A and F, and of a line's end
+--   shortLine, longLine      how many bytes a line of one number has, and one of three
 --   digitValue               the value of an upper-case digit; 16 of any other byte
 --   fourOf, fourAt           the number that four digits make; the four digits at a place
 --   lineAt                   a line of a tag, 0 and one digit, and so many digits more, whose 0A stands where it is due
 --   oneAt, threeAt           the number, and the three numbers, of the frame at a place; ill formed if there is no such frame
---   signed, word             a number in two's complement, and its four digits as a number without sign
 --   digitOf                  the digit of a value below 16
 --   twoDigits, fourDigits    a number as two and as four digits
 -- A place counts the bytes before it. Tags are given by the byte of their second digit.
@@ -12,25 +12,39 @@ use mathlib.Core.Bool.{Bool, _&&_, cond}
 use mathlib.Core.List.{List, [], _∷_}
 use Prim.Native.Nat.{ℕ, _+_, _-_, _*_, _/_, _%_}
 use lib.Dec.{ltb, leb, eqb}
-use lib.IntN.{ℤ, pos, negsuc, subℕ}
 use lib.ListN.{length, getD}
 use Rattle.frames.specs.declared.One.{One}
 use Rattle.frames.specs.declared.One.the-variants.{Ill, Number}
 use Rattle.frames.specs.declared.Three.{Three}
 use Rattle.frames.specs.declared.Three.the-variants.{Ill as Ill³, Numbers}
 
-abbrev pub zero : ℕ
-zero = 48
+abbrev pub digit0 : ℕ
+digit0 = 48
+
+abbrev pub digit9 : ℕ
+digit9 = 57
+
+abbrev pub digitA : ℕ
+digitA = 65
+
+abbrev pub digitF : ℕ
+digitF = 70
 
 abbrev pub lineEnd : ℕ
 lineEnd = 10
 
+-- a tag's two digits, four digits a number, and the 0A
+abbrev pub shortLine : ℕ
+shortLine = 7
+
+abbrev pub longLine : ℕ
+longLine = 15
+
 abbrev pub byteAt : List ℕ → ℕ → ℕ
 byteAt s at = getD s at 0
 
--- 0 to 9 are the bytes 48 to 57, A to F the bytes 65 to 70
 abbrev pub digitValue : ℕ → ℕ
-digitValue b = cond (leb 48 b && leb b 57) (b - 48) (cond (leb 65 b && leb b 70) (b - 55) 16)
+digitValue b = cond (leb digit0 b && leb b digit9) (b - digit0) (cond (leb digitA b && leb b digitF) (10 + (b - digitA)) 16)
 
 abbrev pub fourOf : ℕ → ℕ → ℕ → ℕ → One
 fourOf a b c d = cond (ltb a 16 && (ltb b 16 && (ltb c 16 && ltb d 16))) (Number (((a * 16 + b) * 16 + c) * 16 + d)) Ill
@@ -41,7 +55,7 @@ fourAt s at =
 
 unfoldable pub lineAt : List ℕ → ℕ → ℕ → ℕ → Bool
 lineAt s tag digits at =
-    leb (at + digits + 3) (length s) && (eqb (byteAt s at) zero && (eqb (byteAt s (at + 1)) tag && eqb (byteAt s (at + 2 + digits)) lineEnd))
+    leb (at + digits + 3) (length s) && (eqb (byteAt s at) digit0 && (eqb (byteAt s (at + 1)) tag && eqb (byteAt s (at + 2 + digits)) lineEnd))
 
 abbrev pub oneAt : List ℕ → ℕ → ℕ → One
 oneAt s tag at = cond (lineAt s tag 4 at) (fourAt s (at + 2)) Ill
@@ -55,17 +69,8 @@ together Ill o p = Ill³
 abbrev pub threeAt : List ℕ → ℕ → ℕ → Three
 threeAt s tag at = cond (lineAt s tag 12 at) (together (fourAt s (at + 2)) (fourAt s (at + 6)) (fourAt s (at + 10))) Ill³
 
--- FFFD is -3
-abbrev pub signed : ℕ → ℤ
-signed n = cond (ltb n 32768) (pos n) (subℕ n 65536)
-
--- -3 is FFFD
-abbrev pub word : ℤ → ℕ
-word (pos n) = n
-word (negsuc n) = 65535 - n
-
 abbrev pub digitOf : ℕ → ℕ
-digitOf d = cond (ltb d 10) (48 + d) (55 + d)
+digitOf d = cond (ltb d 10) (digit0 + d) (digitA + (d - 10))
 
 abbrev pub twoDigits : ℕ → List ℕ
 twoDigits n = digitOf (n / 16 % 16) ∷ digitOf (n % 16) ∷ []

@@ -3,7 +3,6 @@ ghost use mathlib.Core.Path.{_≡_};
 ghost use Prim.Native.Nat.{_+_, _%_, _≤_, _<_};
 ghost use lib.ListN.{length};
 ghost use Rattle.frames.specs.Frames.{digitValue, fourAt, lineAt, oneAt, threeAt, digitOf};
-ghost use Rattle.frames.specs.Frames.{signed as Frames·signed, word as Frames·word};
 
 // The digit 0, with which every tag begins, and the last of the figures.
 pub const ZERO: u8 = b'0';
@@ -42,9 +41,6 @@ const SECOND_NUMBER: usize = TAG + DIGITS;
 const THIRD_NUMBER: usize = SECOND_NUMBER + DIGITS;
 
 const FRAME: usize = TAG + 1;
-
-// From here on four digits give a number below 0.
-const HALF: u16 = 32768;
 
 // One number, or ill formed.
 pub enum One {
@@ -150,27 +146,6 @@ pub fn numbers_at(s: &[u8], tag: u8, at: usize) -> Three
         return Three::Ill;
     };
     Three::Numbers(a, b, c)
-}
-
-// The number that four digits give in two's complement: FFFD is -3.
-pub fn signed(n: u16) -> i16
-    ensures { λ r. ⌜ r ≡ Frames·signed n ⌝ }
-{
-    if n < HALF {
-        return codes::lower(n + HALF);
-    }
-    codes::lower(n - HALF)
-}
-
-// The four digits of a number, as a number without sign: -3 is FFFD.
-pub fn word(x: i16) -> u16
-    ensures { λ r. ⌜ r ≡ Frames·word x ⌝ }
-{
-    let u = codes::lift(x);
-    if u < HALF {
-        return u + HALF;
-    }
-    u - HALF
 }
 
 // The digit of the last four bits of a number.

@@ -10,6 +10,8 @@ pub mod Solid
 pub mod Maps
 pub mod Making
 pub mod Closest
+pub mod NearestCodes
+pub mod Few
 pub mod KindTable
 pub mod Checked
 pub mod Outcomes

@@ -7,8 +7,9 @@ use Prim.Native.Nat.{ℕ}
 use lib.IntN.{ℤ, pos, negsuc}
 use lib.Dec.{eqb}
 use lib.ListN.{length}
-use Rattle.meaning.specs.Numbers.{Cell, Corner, cell, corner}
-use Rattle.meaning.specs.Lists.{vertices, numbers, permitted, listed, howMany, mask}
+use Rattle.meaning.specs.Numbers.{Axis, focus, first, second, Cell, Corner, cell, corner}
+use Rattle.meaning.specs.Counting.{count}
+use Rattle.meaning.specs.Lists.{vertices, numbers, permitted, listed, howMany, mask, oddLine}
 use Rattle.meaning.specs.Verdicts.{verdict, refusalNumber, refusalPlace}
 use Rattle.meaning.specs.OneList.{oneListOver}
 use Rattle.meaning.specs.Operations.{join, union, overlap, boxCells}
@@ -18,6 +19,8 @@ use Rattle.meaning.specs.Kinds.{kind}
 pub data Claim : Type 0 where
   -- the verdict on a list has this number and this place
   verdictIs : List ℤ → ℕ → ℕ → Claim
+  -- every line along an axis through a vertex of a list holds an even number of its vertices; an odd number
+  evenLines oddLines : List ℤ → Axis → Claim
   -- a list permits a cell, or does not
   permits forbids : List ℤ → Cell → Claim
   -- nearest of a list is refused with this number
@@ -28,14 +31,15 @@ pub data Claim : Type 0 where
   taken : Cell → Cell → Claim
   -- a set has, or has not, a cell
   has lacks : (Cell → Bool) → Cell → Claim
-  -- the list of a set has so many vertices; it does not list a corner
+  -- the one list of a set has so many vertices; it does not list a corner
   vertexCount : (Cell → Bool) → ℕ → Claim
   unlisted : (Cell → Bool) → Corner → Claim
   -- round a corner a set has so many cells, and the corner is of this kind
   round : (Cell → Bool) → Corner → ℕ → ℕ → Claim
 
--- the numbers from -1 to 5, which hold every corner of the sets below
-few : List ℤ
+-- the numbers from -1 to 5, which hold every corner of the sets below: over these the list of each is its one list (`vertex-counts` of
+-- proofs/Examples.antt)
+unfoldable pub few : List ℤ
 few = negsuc 0 ∷ pos 0 ∷ pos 1 ∷ pos 2 ∷ pos 3 ∷ pos 4 ∷ pos 5 ∷ []
 
 origin : Cell
@@ -44,6 +48,8 @@ origin = cell (pos 0) (pos 0) (pos 0)
 unfoldable pub true-of : Claim → Bool
 unfolding few origin
 true-of (verdictIs ns number place) = eqb (refusalNumber (verdict ns)) number && eqb (refusalPlace (verdict ns)) place
+true-of (evenLines ns axis) = eqb (count (oddLine axis (vertices ns)) (vertices ns)) 0
+true-of (oddLines ns axis) = eqb (count (oddLine axis (vertices ns)) (vertices ns)) (length (vertices ns))
 true-of (permits ns c) = permitted (vertices ns) c
 true-of (forbids ns c) = not (permitted (vertices ns) c)
 true-of (nearestGets ns number) = eqb (nearestOutcome ns origin origin .values .number) number
@@ -77,6 +83,10 @@ unitBoxLessOne =
 unitFace : ℤ → List Corner
 unitFace x = corner x (pos 0) (pos 0) ∷ corner x (pos 0) (pos 1) ∷ corner x (pos 1) (pos 0) ∷ corner x (pos 1) (pos 1) ∷ []
 
+oneFace : List ℤ
+unfolding unitFace
+oneFace = numbers (unitFace (pos 0))
+
 wholeRange : List ℤ
 wholeRange =
     numbers
@@ -97,14 +107,14 @@ twoApart =
     numbers (unitFace (negsuc 0) ++ (unitFace (pos 0) ++ (unitFace (pos 1) ++ unitFace (pos 2))))
 
 -- the cells (0,0,0) and (1,1,0)
-diagonal : Cell → Bool
+unfoldable pub diagonal : Cell → Bool
 diagonal c = boxCells (pos 0) (pos 1) (pos 0) (pos 1) (pos 0) (pos 1) c || boxCells (pos 1) (pos 2) (pos 1) (pos 2) (pos 0) (pos 1) c
 
 -- focus 0 to 2, and focus 2 to 4, with the same unit shifts
-lowSlab : Cell → Bool
+unfoldable pub lowSlab : Cell → Bool
 lowSlab = boxCells (pos 0) (pos 2) (pos 0) (pos 1) (pos 0) (pos 1)
 
-highSlab : Cell → Bool
+unfoldable pub highSlab : Cell → Bool
 highSlab = boxCells (pos 2) (pos 4) (pos 0) (pos 1) (pos 0) (pos 1)
 
 -- the corner (512,512,512) alone, and with a number past the last; a vertex given twice
@@ -115,11 +125,14 @@ givenTwice : List ℤ
 givenTwice = pos 0 ∷ pos 0 ∷ pos 0 ∷ pos 0 ∷ pos 0 ∷ pos 0 ∷ []
 
 unfoldable pub table : List Example
-unfolding unitBoxLessOne unitFace wholeRange twoApart diagonal lowSlab highSlab atTheEnd givenTwice origin
+unfolding unitBoxLessOne unitFace oneFace wholeRange twoApart diagonal lowSlab highSlab atTheEnd givenTwice origin
 table =
     record { number = 1; claims = verdictIs [] 0 0 ∷ forbids [] origin ∷ nearestGets [] 7 ∷ [] } ∷
     record { number = 2; claims = verdictIs (pos 0 ∷ pos 0 ∷ pos 0 ∷ []) 5 0 ∷ [] } ∷
-    record { number = 3; claims = verdictIs (numbers (unitFace (pos 0))) 5 0 ∷ [] } ∷
+    record {
+      number = 3;
+      claims = verdictIs oneFace 5 0 ∷ evenLines oneFace first ∷ evenLines oneFace second ∷ oddLines oneFace focus ∷ [];
+    } ∷
     record { number = 4; claims = verdictIs unitBoxLessOne 5 3 ∷ [] } ∷
     record {
       number = 5;

@@ -11,6 +11,8 @@
 --   Well, Bad                the line with so many lines before it is such a frame; it is none
 --   count-well, count-bad    line 1
 --   run-well, run-bad        lines of three numbers one after the other, up to the first that is ill formed, and that one
+--   bad-one, bad-three, well-three    back again: such a line, where it is read, is read so
+--   run-lines                lines of three numbers that are all such frames are read so
 --   vertices-begin, sum-well, sum-bad, wishes-begin    the vertices' lines, the closing line and the wishes' lines begin where they are read
 --   wish-there               a wish line that is due has a byte
 use mathlib.Core.Path.{_≡_, refl, sym, _∙_, ap, subst}
@@ -26,8 +28,8 @@ use Rattle.meaning.proofs.First.{first-is}
 use Rattle.codes.proofs.Tests.{and-both}
 use Rattle.frames.specs.declared.One.{One}
 use Rattle.frames.specs.declared.One.the-variants.{Ill, Number}
-use Rattle.frames.specs.Frames.{zero as nought, lineEnd, byteAt, digitValue, fourOf, fourAt, lineAt, together, oneAt, threeAt}
-use Rattle.reading.specs.Reading.{countTag, vertexTag, sumTag, isIll, illAt, wishPlace, wishLines}
+use Rattle.frames.specs.Frames.{digit0, lineEnd, longLine, byteAt, digitValue, fourOf, fourAt, lineAt, together, oneAt, threeAt}
+use Rattle.reading.specs.Reading.{countTag, vertexTag, sumTag, isIll, illAt, vertexPlace, sumPlace, wishPlace, wishLines}
 use Rattle.frames.proofs.FrameLaws.{Values, four-whole, one-four, three-whole}
 
 pub record Ends (s : List ℕ) (at end : ℕ) : Type 0 where
@@ -45,7 +47,7 @@ Digits s from to = (k : ℕ) → from ≤ k → k < to → digitValue (byteAt s 
 
 pub record Frame (s : List ℕ) (tag digits at : ℕ) : Type 0 where
   pub line : Ends s at (at + digits + 3)
-  pub nought : byteAt s at ≡ nought
+  pub nought : byteAt s at ≡ digit0
   pub kind : byteAt s (at + 1) ≡ tag
   pub digit : Digits s (at + 2) (at + 2 + digits)
 
@@ -117,22 +119,22 @@ module _ (s : List ℕ) (tag digits at : ℕ) where
   unfolding lineAt
   frame-of other e ds =
       let (long, e₁) = and-both (leb (at + digits + 3) (length s)) _ e in
-      let (first, e₂) = and-both (eqb (byteAt s at) 48) _ e₁ in
+      let (first, e₂) = and-both (eqb (byteAt s at) digit0) _ e₁ in
       let (second, last) = and-both (eqb (byteAt s (at + 1)) tag) _ e₂ in
       let behind : at + digits + 3 - 1 ≡ at + 2 + digits = omega arith in
       record {
         line = record {
           some = omega arith;
           within = leb-true (at + digits + 3) (length s) long;
-          last = ap (byteAt s) behind ∙ eqb-true (byteAt s (at + 2 + digits)) 10 last;
-          before = λ k h l end. none (k - at) k (omega arith) l (eqb-true (byteAt s at) 48 first) (eqb-true (byteAt s (at + 1)) tag second) end;
+          last = ap (byteAt s) behind ∙ eqb-true (byteAt s (at + 2 + digits)) lineEnd last;
+          before = λ k h l end. none (k - at) k (omega arith) l (eqb-true (byteAt s at) digit0 first) (eqb-true (byteAt s (at + 1)) tag second) end;
         };
-        nought = eqb-true (byteAt s at) 48 first;
+        nought = eqb-true (byteAt s at) digit0 first;
         kind = eqb-true (byteAt s (at + 1)) tag second;
         digit = ds;
       }
     where
-      none : (j k : ℕ) → k ≡ at + j → k + 1 < at + digits + 3 → byteAt s at ≡ 48 → byteAt s (at + 1) ≡ tag → byteAt s k ≡ lineEnd → ⊥
+      none : (j k : ℕ) → k ≡ at + j → k + 1 < at + digits + 3 → byteAt s at ≡ digit0 → byteAt s (at + 1) ≡ tag → byteAt s k ≡ lineEnd → ⊥
       none zero k e l f g end = let same : at ≡ k = omega arith in omega (arith, f, end, ap (byteAt s) same)
       none (suc zero) k e l f g end = let same : at + 1 ≡ k = omega arith in other (sym g ∙ ap (byteAt s) same ∙ end)
       none (suc (suc j)) k e l f g end = no-end (byteAt s k) (ds k (omega arith) (omega arith)) end
@@ -143,9 +145,9 @@ module _ (s : List ℕ) (tag digits at : ℕ) where
       let behind : at + 2 + digits ≡ at + digits + 3 - 1 = omega arith in
       rw (
         le-leb (at + digits + 3) (length s) (f .line .within),
-        eq-eqb (byteAt s at) 48 (f .nought),
+        eq-eqb (byteAt s at) digit0 (f .nought),
         eq-eqb (byteAt s (at + 1)) tag (f .kind),
-        eq-eqb (byteAt s (at + 2 + digits)) 10 (ap (byteAt s) behind ∙ f .line .last),
+        eq-eqb (byteAt s (at + 2 + digits)) lineEnd (ap (byteAt s) behind ∙ f .line .last),
       )
 
 module _ (s : List ℕ) (tag at : ℕ) where
@@ -207,20 +209,20 @@ begins-at s k p l q b e f = subst (λ x. Begins s x q) e (subst (Begins s k) f b
 
 -- a tag's digit is no 0A
 module _ (s : List ℕ) (tag start lines : ℕ) (other : tag ≡ lineEnd → ⊥) (from : Begins s lines start) where
-  pub run-begins : (i : ℕ) → ((k : ℕ) → k < i → illAt s tag start k ≡ false) → Begins s (lines + i) (start + 15 * i)
-  run-begins zero h = begins-at s lines start (lines + 0) (start + 15 * 0) from (omega arith) (omega arith)
+  pub run-begins : (i : ℕ) → ((k : ℕ) → k < i → illAt s tag start k ≡ false) → Begins s (lines + i) (start + longLine * i)
+  run-begins zero h = begins-at s lines start (lines + 0) (start + longLine * 0) from (omega arith) (omega arith)
   run-begins (suc i) h =
-      begins-at s (suc (lines + i)) (start + 15 * i + 12 + 3) (lines + suc i) (start + 15 * suc i)
-      (start + 15 * i, run-begins i (λ k l. h k (omega arith)), three-frame s tag (start + 15 * i) other (h i (omega arith)) .line) (omega arith) (omega arith)
+      begins-at s (suc (lines + i)) (start + longLine * i + 12 + 3) (lines + suc i) (start + longLine * suc i)
+      (start + longLine * i, run-begins i (λ k l. h k (omega arith)), three-frame s tag (start + longLine * i) other (h i (omega arith)) .line) (omega arith) (omega arith)
 
   module _ (n : ℕ) where
     pub run-well : (i : ℕ) → i < first (illAt s tag start) n → Well s tag 12 (lines + i)
     run-well i h =
         let f = first-is (illAt s tag start) n in
         record {
-          place = start + 15 * i;
+          place = start + longLine * i;
           begins = run-begins i (λ k l. f .before k (omega arith));
-          frame = three-frame s tag (start + 15 * i) other (f .before i h);
+          frame = three-frame s tag (start + longLine * i) other (f .before i h);
         }
 
     pub run-bad : first (illAt s tag start) n < n → Bad s tag 12 (lines + first (illAt s tag start) n)
@@ -228,10 +230,42 @@ module _ (s : List ℕ) (tag start lines : ℕ) (other : tag ≡ lineEnd → ⊥
         let f = first-is (illAt s tag start) n in
         let r = first (illAt s tag start) n in
         record {
-          place = start + 15 * r;
+          place = start + longLine * r;
           begins = run-begins r (f .before);
-          none = λ k. true≢false (sym (f .found h) ∙ frame-three s tag (start + 15 * r) k);
+          none = λ k. true≢false (sym (f .found h) ∙ frame-three s tag (start + longLine * r) k);
         }
+
+-- ---- back again: what a line is, it is where it is read
+
+module _ (s : List ℕ) (tag at k : ℕ) (from : Begins s k at) where
+  pub bad-one : (tag ≡ lineEnd → ⊥) → Bad s tag 4 k → Ill ≡ oneAt s tag at
+  bad-one other b = by (oneAt s tag at) refl
+    where
+      by : (o : One) → oneAt s tag at ≡ o → Ill ≡ o
+      by Ill e = refl
+      by (Number m) e = absurd (b .none (subst (Frame s tag 4) (begins-one s k at (b .place) from (b .begins)) (one-frame s tag at other (sym e))))
+
+  pub bad-three : (tag ≡ lineEnd → ⊥) → Bad s tag 12 k → isIll (threeAt s tag at) ≡ true
+  bad-three other b = by (isIll (threeAt s tag at)) refl
+    where
+      by : (t : Bool) → isIll (threeAt s tag at) ≡ t → t ≡ true
+      by true e = refl
+      by false e = absurd (b .none (subst (Frame s tag 12) (begins-one s k at (b .place) from (b .begins)) (three-frame s tag at other e)))
+
+  pub well-three : Well s tag 12 k → isIll (threeAt s tag at) ≡ false
+  well-three w = frame-three s tag at (subst (Frame s tag 12) (begins-one s k (w .place) at (w .begins) from) (w .frame))
+
+module _ (s : List ℕ) (tag start lines : ℕ) (other : tag ≡ lineEnd → ⊥) (from : Begins s lines start) where
+  pub run-lines : (n : ℕ) → ((i : ℕ) → i < n → Well s tag 12 (lines + i)) → (i : ℕ) → i < n → illAt s tag start i ≡ false
+  run-lines zero w i h = absurd (omega arith)
+  run-lines (suc n) w i h = by (run-lines n (λ j l. w j (omega arith))) (ltb i n) refl
+    where
+      by : ((j : ℕ) → j < n → illAt s tag start j ≡ false) → (t : Bool) → ltb i n ≡ t → illAt s tag start i ≡ false
+      by r true e = r i (ltb-true i n e)
+      by r false e =
+          let last : n ≡ i = omega (arith, ltb-false i n e) in
+          let here = run-begins s tag start lines other from n r in
+          subst (λ j. illAt s tag start j ≡ false) last (well-three s tag (start + longLine * n) (lines + n) here (w n (omega arith)))
 
 -- a closing line or line 1 that is ill formed
 one-bad : (s : List ℕ) (tag at k : ℕ) → Begins s k at → Ill ≡ oneAt s tag at → Bad s tag 4 k
@@ -250,24 +284,24 @@ module _ (s : List ℕ) where
     pub count-well : Well s countTag 4 0
     count-well = record { place = 0; begins = refl; frame = one-frame s countTag 0 (λ e. omega arith) en }
 
-    pub vertices-begin : Begins s 1 7
+    pub vertices-begin : Begins s 1 vertexPlace
     vertices-begin = (0, refl, one-frame s countTag 0 (λ e. omega arith) en .line)
 
-    module _ (well : (k : ℕ) → k < n → illAt s vertexTag 7 k ≡ false) where
-      sum-begins : Begins s (1 + n) (7 + 15 * n)
-      sum-begins = run-begins s vertexTag 7 1 (λ e. omega arith) vertices-begin n well
+    module _ (well : (k : ℕ) → k < n → illAt s vertexTag vertexPlace k ≡ false) where
+      pub sum-begins : Begins s (1 + n) (sumPlace n)
+      sum-begins = run-begins s vertexTag vertexPlace 1 (λ e. omega arith) vertices-begin n well
 
-      pub sum-bad : Ill ≡ oneAt s sumTag (7 + 15 * n) → Bad s sumTag 4 (1 + n)
-      sum-bad e = one-bad s sumTag (7 + 15 * n) (1 + n) sum-begins e
+      pub sum-bad : Ill ≡ oneAt s sumTag (sumPlace n) → Bad s sumTag 4 (1 + n)
+      sum-bad e = one-bad s sumTag (sumPlace n) (1 + n) sum-begins e
 
-      pub sum-well : {m : ℕ} → Number m ≡ oneAt s sumTag (7 + 15 * n) → Well s sumTag 4 (1 + n)
-      sum-well e = record { place = 7 + 15 * n; begins = sum-begins; frame = one-frame s sumTag (7 + 15 * n) (λ e. omega arith) e }
+      pub sum-well : {m : ℕ} → Number m ≡ oneAt s sumTag (sumPlace n) → Well s sumTag 4 (1 + n)
+      sum-well e = record { place = sumPlace n; begins = sum-begins; frame = one-frame s sumTag (sumPlace n) (λ e. omega arith) e }
 
-      pub wishes-begin : {m : ℕ} → Number m ≡ oneAt s sumTag (7 + 15 * n) → Begins s (n + 2) (wishPlace n)
+      pub wishes-begin : {m : ℕ} → Number m ≡ oneAt s sumTag (sumPlace n) → Begins s (n + 2) (wishPlace n)
       wishes-begin e =
-          begins-at s (suc (1 + n)) (7 + 15 * n + 4 + 3) (n + 2) (wishPlace n)
-          (7 + 15 * n, sum-begins, one-frame s sumTag (7 + 15 * n) (λ e. omega arith) e .line) (omega arith) (omega arith)
+          begins-at s (suc (1 + n)) (sumPlace n + 4 + 3) (n + 2) (wishPlace n)
+          (sumPlace n, sum-begins, one-frame s sumTag (sumPlace n) (λ e. omega arith) e .line) (omega arith) (omega arith)
 
 -- a wish line that is due has a byte
-pub wish-there : (s : List ℕ) (n i : ℕ) → i < wishLines s n → wishPlace n + 15 * i < length s
+pub wish-there : (s : List ℕ) (n i : ℕ) → i < wishLines s n → wishPlace n + longLine * i < length s
 wish-there s n i h = omega arith

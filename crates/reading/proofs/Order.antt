@@ -1,6 +1,7 @@
 -- The order of the reader's checks: what the text comes to, by the first check that fails.
 --   map-ill-count, map-counted       the text of a map, by its line 1
 --   count-many .. sum-right          what follows a count
+--   most-vertices                    the most vertices are 1,024
 --   first-within                     the first of the places that are past a limit or pass a test
 --   wish-none, wish-ill, wish-all    the text of the wishes
 --   wish-few                         if it is well formed they are at most 256
@@ -20,23 +21,28 @@ use Rattle.meaning.proofs.First.{First, first-is, is-first}
 use Rattle.frames.specs.declared.One.the-variants.{Ill, Number}
 use Rattle.frames.specs.Frames.{oneAt}
 use Rattle.reading.specs.Reading.{Text, refused, whole, countTag, vertexTag, sumTag, wishTag, illAt, numbersFrom, unlessIll}
+use Rattle.reading.specs.Reading.{tooMany, illFormed, wrongSum, vertexPlace, sumPlace}
 use Rattle.reading.specs.Reading.{closingSum, byVerdict, closed, counted, mapText, wishPlace, wishLines, mostWishes, wishText}
 
 -- ---- a run of lines
 
-unless-found : (p : ℕ → Bool) (n line r : ℕ) (next : Text) → r ≡ first p n → r < n → refused 10 (line + r) ≡ unlessIll p n line next
+pub unless-found : (p : ℕ → Bool) (n line r : ℕ) (next : Text) → r ≡ first p n → r < n → refused illFormed (line + r) ≡ unlessIll p n line next
 unless-found p n line r next e h =
-    ap (λ k. refused 10 (line + k)) e ∙
-    sym (ap (λ t. cond t (refused 10 (line + first p n)) next) (lt-ltb (first p n) n (subst (_< n) e h)))
+    ap (λ k. refused illFormed (line + k)) e ∙
+    sym (ap (λ t. cond t (refused illFormed (line + first p n)) next) (lt-ltb (first p n) n (subst (_< n) e h)))
 
 unless-none : (p : ℕ → Bool) (n line r : ℕ) (next : Text) → r ≡ first p n → n ≤ r → next ≡ unlessIll p n line next
 unless-none p n line r next e h =
-    sym (ap (λ t. cond t (refused 10 (line + first p n)) next) (le-ltb (first p n) n (subst (n ≤_) e h)))
+    sym (ap (λ t. cond t (refused illFormed (line + first p n)) next) (le-ltb (first p n) n (subst (n ≤_) e h)))
 
 -- ---- a map
 
+pub most-vertices : mostVertices ≡ 1024
+unfolding mostVertices
+most-vertices = refl
+
 module _ (s : List ℕ) where
-  pub map-ill-count : Ill ≡ oneAt s countTag 0 → refused 10 1 ≡ mapText s
+  pub map-ill-count : Ill ≡ oneAt s countTag 0 → refused illFormed 1 ≡ mapText s
   unfolding mapText
   map-ill-count e = ap (counted s) e
 
@@ -47,36 +53,35 @@ module _ (s : List ℕ) where
 
   module _ (n : ℕ) where
     abbrev after : Text
-    after = closed n (numbersFrom s vertexTag 7 n) (oneAt s sumTag (7 + 15 * n))
+    after = closed n (numbersFrom s vertexTag vertexPlace n) (oneAt s sumTag (sumPlace n))
 
-    by-count : (t : Bool) → ltb 1024 n ≡ t → cond t (refused 2 0) (unlessIll (illAt s vertexTag 7) n 2 after) ≡ counted s (Number n)
-    unfolding mostVertices
-    by-count t e = ap (λ u. cond u (refused 2 0) (unlessIll (illAt s vertexTag 7) n 2 after)) (sym e)
+    by-count : (t : Bool) → ltb mostVertices n ≡ t → cond t (refused tooMany 0) (unlessIll (illAt s vertexTag vertexPlace) n 2 after) ≡ counted s (Number n)
+    by-count t e = ap (λ u. cond u (refused tooMany 0) (unlessIll (illAt s vertexTag vertexPlace) n 2 after)) (sym e)
 
-    pub count-many : 1024 < n → refused 2 0 ≡ counted s (Number n)
-    count-many h = by-count true (lt-ltb 1024 n h)
+    pub count-many : mostVertices < n → refused tooMany 0 ≡ counted s (Number n)
+    count-many h = by-count true (lt-ltb mostVertices n h)
 
-    module _ (h : n ≤ 1024) {r : ℕ} (er : r ≡ first (illAt s vertexTag 7) n) where
-      few : unlessIll (illAt s vertexTag 7) n 2 after ≡ counted s (Number n)
-      few = by-count false (le-ltb 1024 n h)
+    module _ (h : n ≤ mostVertices) {r : ℕ} (er : r ≡ first (illAt s vertexTag vertexPlace) n) where
+      few : unlessIll (illAt s vertexTag vertexPlace) n 2 after ≡ counted s (Number n)
+      few = by-count false (le-ltb mostVertices n h)
 
-      pub count-ill-vertex : r < n → refused 10 (2 + r) ≡ counted s (Number n)
-      count-ill-vertex k = unless-found (illAt s vertexTag 7) n 2 r after er k ∙ few
+      pub count-ill-vertex : r < n → refused illFormed (2 + r) ≡ counted s (Number n)
+      count-ill-vertex k = unless-found (illAt s vertexTag vertexPlace) n 2 r after er k ∙ few
 
       module _ (k : n ≤ r) where
         lines-well : after ≡ counted s (Number n)
-        lines-well = unless-none (illAt s vertexTag 7) n 2 r after er k ∙ few
+        lines-well = unless-none (illAt s vertexTag vertexPlace) n 2 r after er k ∙ few
 
-        pub count-ill-sum : Ill ≡ oneAt s sumTag (7 + 15 * n) → refused 10 (n + 2) ≡ counted s (Number n)
-        count-ill-sum e = ap (closed n (numbersFrom s vertexTag 7 n)) e ∙ lines-well
+        pub count-ill-sum : Ill ≡ oneAt s sumTag (sumPlace n) → refused illFormed (n + 2) ≡ counted s (Number n)
+        count-ill-sum e = ap (closed n (numbersFrom s vertexTag vertexPlace n)) e ∙ lines-well
 
-        module _ {m : ℕ} (em : Number m ≡ oneAt s sumTag (7 + 15 * n)) {ns : List ℤ} (es : ns ≡ numbersFrom s vertexTag 7 n) where
-          by-sum : (t : Bool) → eqb m (closingSum n ns) ≡ t → cond t (byVerdict ns (verdict ns)) (refused 11 0) ≡ counted s (Number n)
+        module _ {m : ℕ} (em : Number m ≡ oneAt s sumTag (sumPlace n)) {ns : List ℤ} (es : ns ≡ numbersFrom s vertexTag vertexPlace n) where
+          by-sum : (t : Bool) → eqb m (closingSum n ns) ≡ t → cond t (byVerdict ns (verdict ns)) (refused wrongSum 0) ≡ counted s (Number n)
           by-sum t e =
-              ap (λ u. cond u (byVerdict ns (verdict ns)) (refused 11 0)) (sym e) ∙
+              ap (λ u. cond u (byVerdict ns (verdict ns)) (refused wrongSum 0)) (sym e) ∙
               ap₂ (closed n) es em ∙ lines-well
 
-          pub sum-wrong : (m ≡ closingSum n ns → ⊥) → refused 11 0 ≡ counted s (Number n)
+          pub sum-wrong : (m ≡ closingSum n ns → ⊥) → refused wrongSum 0 ≡ counted s (Number n)
           sum-wrong d = by-sum false (ne-eqb m (closingSum n ns) d)
 
           pub sum-right : m ≡ closingSum n ns → byVerdict ns (verdict ns) ≡ counted s (Number n)
@@ -117,7 +122,7 @@ module _ (s : List ℕ) (n : ℕ) where
     found : r ≡ first bad due
     found = er ∙ first-within (illAt s wishTag (wishPlace n)) 256 due
 
-    pub wish-ill : r < due → refused 10 (n + 3 + r) ≡ wishText s n
+    pub wish-ill : r < due → refused illFormed (n + 3 + r) ≡ wishText s n
     wish-ill h = unless-found bad due (n + 3) r (whole (numbersFrom s wishTag (wishPlace n) due)) found h ∙ wish-is due e
 
     pub wish-few : due ≤ r → due ≤ 256

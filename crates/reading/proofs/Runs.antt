@@ -18,7 +18,8 @@ use Rattle.meaning.specs.Counting.{first}
 use Rattle.meaning.proofs.First.{first-is, is-first}
 use Rattle.frames.specs.declared.Three.{Three}
 use Rattle.frames.specs.declared.Three.the-variants.{Ill, Numbers}
-use Rattle.frames.specs.Frames.{threeAt, signed}
+use Rattle.frames.specs.Frames.{longLine, threeAt}
+use Rattle.words.specs.Words.{signed}
 use Rattle.reading.specs.Reading.{isIll, numbersOf, illAt, numbersFrom}
 
 pub record Run (s : List ℕ) (tag start n : ℕ) (before now : List ℤ) (i : ℕ) : Type 0 where
@@ -45,7 +46,7 @@ module _ (s : List ℕ) (tag start n : ℕ) where
   run-none l = record { within = omega arith; well = λ k h. absurd (omega arith); front = refl; long = refl }
 
   pub run-more : {before now : List ℤ} {i : ℕ} (a b c : ℕ) (x y z : ℤ) → Run s tag start n before now i → i < n → 3 * n ≤ length before
-      → Numbers a b c ≡ threeAt s tag (start + 15 * i) → x ≡ signed a → y ≡ signed b → z ≡ signed c
+      → Numbers a b c ≡ threeAt s tag (start + longLine * i) → x ≡ signed a → y ≡ signed b → z ≡ signed c
       → Run s tag start n before (set (set (set now (3 * i) x) (3 * i + 1) y) (3 * i + 2) z) (i + 1)
   run-more {before} {now} {i} a b c x y z r h room e ex ey ez =
       let stored = three-stores now i x y z (omega (arith, r .long)) in
@@ -59,7 +60,7 @@ module _ (s : List ℕ) (tag start n : ℕ) where
         long = stored .1 ∙ r .long;
       }
 
-  pub run-stop : {before now : List ℤ} {i : ℕ} → Run s tag start n before now i → i < n → Ill ≡ threeAt s tag (start + 15 * i)
+  pub run-stop : {before now : List ℤ} {i : ℕ} → Run s tag start n before now i → i < n → Ill ≡ threeAt s tag (start + longLine * i)
       → i ≡ first (illAt s tag start) n
   run-stop {before} {now} {i} r h e =
       is-first (illAt s tag start) n i (record { within = r .within; before = r .well; found = λ l. sym (ap isIll e) })
@@ -83,7 +84,7 @@ pub numbers-long : (s : List ℕ) (tag start n : ℕ) → ((k : ℕ) → k < n �
 numbers-long s tag start zero h = refl
 numbers-long s tag start (suc n) h =
     length-append (numbersFrom s tag start n) _ ∙
-    omega (arith, numbers-long s tag start n (λ k l. h k (omega arith)), three (threeAt s tag (start + 15 * n)) (h n (omega arith)))
+    omega (arith, numbers-long s tag start n (λ k l. h k (omega arith)), three (threeAt s tag (start + longLine * n)) (h n (omega arith)))
   where
     three : (f : Three) → isIll f ≡ false → length (numbersOf f) ≡ 3
     three Ill e = absurd (mathlib.Core.Bool.true≢false e)

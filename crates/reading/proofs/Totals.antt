@@ -24,7 +24,8 @@ use Rattle.codes.proofs.Shift.{down-not, down-below}
 use Rattle.frames.specs.declared.One.{One}
 use Rattle.frames.specs.declared.One.the-variants.{Ill, Number}
 use Rattle.frames.specs.declared.Three.the-variants.{Ill as Ill³}
-use Rattle.frames.specs.Frames.{byteAt, digitValue, fourOf, fourAt, lineAt, together, threeAt, signed, word}
+use Rattle.frames.specs.Frames.{longLine, byteAt, digitValue, fourOf, fourAt, lineAt, together, threeAt}
+use Rattle.words.specs.Words.{word, signed}
 use Rattle.reading.specs.Reading.{numbersOf, numbersFrom, total, closingSum}
 use Rattle.reading.proofs.ByEnds.{all-four}
 
@@ -130,4 +131,4 @@ module _ (s : List ℕ) (tag : ℕ) where
   pub numbers-fit : (start n : ℕ) → All (SFits w16) (numbersFrom s tag start n)
   numbers-fit start zero = tt
   numbers-fit start (suc n) =
-      both-fit (numbersFrom s tag start n) (numbersOf (threeAt s tag (start + 15 * n))) (numbers-fit start n) (frame-fits (start + 15 * n))
+      both-fit (numbersFrom s tag start n) (numbersOf (threeAt s tag (start + longLine * n))) (numbers-fit start n) (frame-fits (start + longLine * n))

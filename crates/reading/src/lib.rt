@@ -82,9 +82,9 @@ fn frames_from(s: &[u8], tag: u8, start: usize, n: usize, list: &mut [i16]) -> u
         let Three::Numbers(a, b, c) = frames::numbers_at(s, tag, start + LONG_LINE * i) else {
             return i;
         };
-        list[NUMBERS * i] = frames::signed(a);
-        list[NUMBERS * i + 1] = frames::signed(b);
-        list[NUMBERS * i + 2] = frames::signed(c);
+        list[NUMBERS * i] = words::signed(a);
+        list[NUMBERS * i + 1] = words::signed(b);
+        list[NUMBERS * i + 2] = words::signed(c);
         i += 1;
     }
     n
@@ -98,7 +98,7 @@ fn closing_sum(n: usize, list: &[i16]) -> usize
     let mut sum = n;
     let mut i = 0;
     while i < list.len() {
-        sum = (sum + frames::word(list[i]) as usize) % WORDS;
+        sum = (sum + words::word(list[i]) as usize) % WORDS;
         i += 1;
     }
     sum
@@ -164,7 +164,7 @@ pub fn read_wishes(s: &[u8], n: usize, list: &mut [i16]) -> Read
     ensures { λ r. ⌜ meant r (now (list .exit)) ≡ wishText (now (s .entry)) n ⌝ }
     ensures { λ r. ⌜ AtMost 256 r ⌝ }
 {
-    let start = 2 * SHORT_LINE + LONG_LINE * n;
+    let start = SHORT_LINE + LONG_LINE * n + SHORT_LINE;
     if s.len() <= start {
         return Read::Whole(0);
     }

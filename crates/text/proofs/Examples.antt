@@ -8,7 +8,7 @@ use Prim.Native.Nat.{ℕ}
 use lib.IntN.{pos, negsuc}
 use Rattle.meaning.specs.Lists.{mostVertices}
 use Rattle.meaning.specs.Verdicts.{verdict}
-use Rattle.frames.specs.Frames.{fourAt, lineAt, twoDigits, fourDigits, lineEnd}
+use Rattle.frames.specs.Frames.{digit0, fourAt, lineAt, twoDigits, fourDigits, lineEnd}
 use Rattle.reading.specs.Reading.{mapText, wishText, mostWishes}
 use Rattle.text.specs.Program.{mostBytes, refusal, answers, outcome}
 
@@ -63,7 +63,7 @@ inputs =
     -- the empty map with no wish, with a wish, and with a byte that begins a wish and does not end it
     mapOf 0 [] 0 ∷
     (mapOf 0 [] 0 ++ frame 4 (0 ∷ 0 ∷ 0 ∷ [])) ∷
-    (mapOf 0 [] 0 ++ (frame 4 (0 ∷ 0 ∷ 0 ∷ []) ++ (48 ∷ []))) ∷
+    (mapOf 0 [] 0 ++ (frame 4 (0 ∷ 0 ∷ 0 ∷ []) ++ (digit0 ∷ []))) ∷
     []
 
 pub comes-to : map outcome inputs ≡

@@ -15,7 +15,7 @@ use lib.ListN.{length, take, drop, length-append}
 use lib.Seq.{take-at, drop-at, length-take-le}
 use Rattle.meaning.specs.Lists.{vertices}
 use Rattle.lists.proofs.Vertices.{length-vertices}
-use Rattle.reading.specs.Reading.{Text, refused, whole, mapText, wishText}
+use Rattle.reading.specs.Reading.{tooLong, Text, refused, whole, mapText, wishText}
 use Rattle.answers.specs.Answers.{refusalLine, Answers, Filled, Written}
 use Rattle.text.specs.Program.{refusal, answers, withWishes, withMap, outcome, Put}
 use Rattle.text.proofs.Settled.{most-bytes}
@@ -23,11 +23,11 @@ use Rattle.text.proofs.Settled.{most-bytes}
 -- ---- the length of the input
 
 module _ (s : List ℕ) where
-  by-bytes : (t : Bool) → ltb 19214 (length s) ≡ t → cond t (refusal 12 0) (withMap s (mapText s)) ≡ outcome s
+  by-bytes : (t : Bool) → ltb 19214 (length s) ≡ t → cond t (refusal tooLong 0) (withMap s (mapText s)) ≡ outcome s
   unfolding outcome
-  by-bytes t e = ap (λ u. cond u (refusal 12 0) (withMap s (mapText s))) (sym e ∙ ap (λ n. ltb n (length s)) (sym most-bytes))
+  by-bytes t e = ap (λ u. cond u (refusal tooLong 0) (withMap s (mapText s))) (sym e ∙ ap (λ n. ltb n (length s)) (sym most-bytes))
 
-  pub too-long : 19214 < length s → refusal 12 0 ≡ outcome s
+  pub too-long : 19214 < length s → refusal tooLong 0 ≡ outcome s
   too-long h = by-bytes true (lt-ltb 19214 (length s) h)
 
   pub not-long : length s ≤ 19214 → withMap s (mapText s) ≡ outcome s
@@ -82,6 +82,6 @@ module _ (s : List ℕ) (short : length s ≤ 19214) {before after : List ℕ} {
       subst (λ o. Put o before r after)
       (ap (λ k. withWishes (take (3 * n) l) (wishText s k)) (sym (read-count n l h)) ∙ ap (withMap s) e ∙ not-long s short) p
 
-pub bytes-refused : (s : List ℕ) {before after : List ℕ} {r : ℕ} → 19214 < length s → 9 ≤ length before → Filled (refusalLine 12 0) before r after
+pub bytes-refused : (s : List ℕ) {before after : List ℕ} {r : ℕ} → 19214 < length s → 9 ≤ length before → Filled (refusalLine tooLong 0) before r after
     → Put (outcome s) before r after
-bytes-refused s {before} {after} {r} long h f = subst (λ o. Put o before r after) (too-long s long) (put-refusal 12 0 h f)
+bytes-refused s {before} {after} {r} long h f = subst (λ o. Put o before r after) (too-long s long) (put-refusal tooLong 0 h f)

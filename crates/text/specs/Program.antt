@@ -13,12 +13,13 @@ use lib.Dec.{ltb}
 use lib.IntN.{ℤ}
 use lib.ListN.{length, take, drop}
 use Rattle.meaning.specs.Lists.{vertices, mostVertices}
-use Rattle.reading.specs.Reading.{Text, refused, whole, mapText, wishPlace, mostWishes, wishText}
+use Rattle.frames.specs.Frames.{longLine}
+use Rattle.reading.specs.Reading.{tooLong, Text, refused, whole, mapText, wishPlace, mostWishes, wishText}
 use Rattle.answers.specs.Answers.{refusalLine, Answers}
 
 -- 19,214
 unfoldable pub mostBytes : ℕ
-mostBytes = wishPlace mostVertices + 15 * mostWishes
+mostBytes = wishPlace mostVertices + longLine * mostWishes
 
 pub data Outcome : Type 0 where
   refusal : ℕ → ℕ → Outcome
@@ -33,7 +34,7 @@ withMap s (refused number place) = refusal number place
 withMap s (whole ns) = withWishes ns (wishText s (length (vertices ns)))
 
 unfoldable pub outcome : List ℕ → Outcome
-outcome s = cond (ltb mostBytes (length s)) (refusal 12 0) (withMap s (mapText s))
+outcome s = cond (ltb mostBytes (length s)) (refusal tooLong 0) (withMap s (mapText s))
 
 -- ---- what is written
 

@@ -31,7 +31,8 @@ fn answer_wishes(input: &[u8], n: usize, list: &[i16], out: &mut [u8]) -> usize
     requires { ⌜ n ≤ 1024 ⌝ }
     requires { ⌜ verdict (now list) ≡ Verdict.Valid ⌝ }
     requires { ⌜ 4352 ≤ length (now out) ⌝ }
-    ensures { λ r. ⌜ Put (withWishes (now (list .entry)) (wishText (now (input .entry)) n)) (now (out .entry)) r (now (out .exit)) ⌝ }
+    ensures { λ r. ⌜ Put (withWishes (now (list .entry)) (wishText (now (input .entry)) n))
+        (now (out .entry)) r (now (out .exit)) ⌝ }
 {
     let mut wishes = [0i16; WISH_NUMBERS];
     match reading::read_wishes(input, n, &mut wishes) {

@@ -4,7 +4,7 @@ use mathlib.Core.List.{[], _∷_}
 use borrow.Author.Needs.{needs}
 use mir.Syntax.{w16}
 use mir.ValLaws.{toZ-ofZ}
-use Rattle.frames.specs.Frames.{word}
+use Rattle.words.specs.Words.{word}
 use Rattle.answers.proofs.Lines.{four-then}
 use Rattle.answers.proofs.cell_line.Statement.{statement}
 use Rattle.answers.proofs.cell_line.Tie as tie

@@ -8,7 +8,7 @@ use lib.IntN.{pos}
 use lib.ListN.{getD, length, drop}
 use Rattle.codes.proofs.Laws.{read-back}
 use Rattle.reading.proofs.Totals.{sum-more, sum-all}
-use Rattle.frames.specs.Frames.{word}
+use Rattle.words.specs.Words.{word}
 use Rattle.reading.specs.Reading.{total}
 use Rattle.reading.proofs.closing_sum.Statement.{statement}
 use Rattle.reading.proofs.closing_sum.Tie as tie

@@ -8,11 +8,13 @@ use denote.Ref.{now}
 use lib.IntN.{ℤ}
 use lib.ListN.{length, take}
 use lib.Seq.{length-take-le}
+use Rattle.meaning.specs.Lists.{mostVertices}
 use Rattle.frames.specs.declared.One.the-variants.{Number}
 use Rattle.frames.specs.Frames.{oneAt}
-use Rattle.reading.specs.Reading.{vertexTag, sumTag, numbersFrom, byVerdict}
+use Rattle.lists.proofs.Verdicts.{checked-verdict}
+use Rattle.reading.specs.Reading.{vertexTag, sumTag, numbersFrom, byVerdict, vertexPlace, sumPlace}
 use Rattle.reading.proofs.Runs.{all-read}
-use Rattle.reading.proofs.Order.{count-ill-vertex, count-ill-sum, sum-wrong, sum-right}
+use Rattle.reading.proofs.Order.{most-vertices, count-ill-vertex, count-ill-sum, sum-wrong, sum-right}
 use Rattle.reading.proofs.read_counted.Statement.{statement}
 use Rattle.reading.proofs.read_counted.Tie as tie
 
@@ -26,20 +28,20 @@ count f = f .before .before .before .args .n
 abbrev filled : tie.After-frames-from → List ℤ
 filled f = f .frames-from .last .1 .1 .1 .1 .0
 
-few : (f : tie.After-frames-from) → count f ≤ 1024
-few f = f .before .before .before .pre .0
+few : (f : tie.After-frames-from) → count f ≤ mostVertices
+few f = omega (arith, most-vertices, f .before .before .before .pre .0)
 
 -- the numbers of the vertices are in the list
 fits : (f : tie.After-frames-from) → 3 * count f ≤ length (filled f)
 fits f = omega (arith, f .frames-from .kept .1 .1 .1 .1 .0, f .before .before .before .pre .1)
 
 -- all vertices are read
-all : (c : tie.Else1) → let f = c .before .before in take (3 * count f) (filled f) ≡ numbersFrom (text f) vertexTag 7 (count f)
+all : (c : tie.Else1) → let f = c .before .before in take (3 * count f) (filled f) ≡ numbersFrom (text f) vertexTag vertexPlace (count f)
 all c = let f = c .before .before in all-read _ _ _ (count f) _ (f .frames-from .ensures .0) (omega arith) (f .frames-from .ensures .1)
 
 -- the closing line holds a sum
 summed : (c : tie.After-known-told) → let f = c .before .before .before .before .before .before in
-    Number (c .before .sum .given .0 .0) ≡ oneAt (text f) sumTag (7 + 15 * count f)
+    Number (c .before .sum .given .0 .0) ≡ oneAt (text f) sumTag (sumPlace (count f))
 summed c = sym (c .before .sum .given .1) ∙ c .before .before .before .number-at .ensures
 
 frames-from-requires : tie.Need-frames-from-requires
@@ -132,7 +134,7 @@ returns-4 c =
     let at-if1 = at-sum .before .before .before .before in
     let f = at-if1 .before .before in (
       c .by-verdict .ensures .0 _ ∙
-          ap (byVerdict _) (c .before .check .ensures) ∙
+          ap (byVerdict _) (checked-verdict _ _ (c .before .check .ensures)) ∙
           sum-right _ _ (few f) (f .frames-from .ensures .0) (at-if1 .if1 .left) (summed at-sum) (all at-if1)
           (omega (arith, at-if2 .if2 .left) ∙ at-closing-sum .closing-sum .ensures),
       c .by-verdict .ensures .1,

@@ -4,6 +4,7 @@ use borrow.Author.Needs.{needs}
 use denote.Ref.{now}
 use Rattle.frames.specs.declared.One.the-variants.{Number}
 use Rattle.frames.specs.Frames.{oneAt}
+use Rattle.meaning.specs.Lists.{mostVertices}
 use Rattle.reading.specs.Reading.{countTag}
 use Rattle.reading.proofs.Order.{map-ill-count, map-counted, count-many}
 use Rattle.reading.proofs.read_map.Statement.{statement}
@@ -29,6 +30,7 @@ cast-n : tie.Need-cast-n
 cast-n c = search needs
 
 returns-2 : tie.Need-returns-2
+unfolding mostVertices
 returns-2 c = (map-counted _ (counted (c .before)) (count-many _ _ (c .if1 .taken)), tt)
 
 read-counted-requires : tie.Need-read-counted-requires

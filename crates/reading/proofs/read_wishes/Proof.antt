@@ -7,6 +7,7 @@ use borrow.Author.Needs.{needs}
 use denote.Ref.{now}
 use lib.ListN.{length}
 use Rattle.meaning.specs.Counting.{first}
+use Rattle.frames.specs.Frames.{longLine}
 use Rattle.reading.specs.Reading.{wishTag, illAt, wishPlace, wishLines}
 use Rattle.reading.proofs.Order.{wish-none, wish-ill, wish-all, wish-few}
 use Rattle.reading.proofs.read_wishes.Statement.{statement}
@@ -20,7 +21,7 @@ abbrev count : tie.After-frames-from → ℕ
 count f = f .before .before .before .before .before .args .n
 
 abbrev due : tie.After-frames-from → ℕ
-due f = (length (text f) - wishPlace (count f) + 15 - 1) / 15
+due f = (length (text f) - wishPlace (count f) + longLine - 1) / longLine
 
 are-due : (f : tie.After-frames-from) → due f ≡ wishLines (text f) (count f)
 are-due f = omega arith
@@ -43,11 +44,11 @@ returns-3 c =
 mul-start : tie.Need-mul-start
 mul-start c = search needs
 
-mul-start-2 : tie.Need-mul-start-2
-mul-start-2 c = search needs
-
 add-start : tie.Need-add-start
 add-start c = search needs
+
+add-start-2 : tie.Need-add-start-2
+add-start-2 c = search needs
 
 sub-due : tie.Need-sub-due
 sub-due c = search needs
@@ -81,8 +82,8 @@ read-wishes-spec =
     tie.close
     (tie.spec
     mul-start
-    mul-start-2
     add-start
+    add-start-2
     returns
     sub-due
     add-due
