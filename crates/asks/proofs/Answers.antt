@@ -9,6 +9,7 @@ use mathlib.Core.Path.{_≡_, refl, sym, _∙_, ap, ap₂}
 use mathlib.Core.Bool.{Bool, true, false, cond, true≢false}
 use mathlib.Core.List.{List, []}
 use Prim.Native.Nat.{ℕ, zero, suc, _+_, _*_, _-_, _≤_}
+use native.Mathlib.Nat.{add-comm}
 use native.Mathlib.Omega.{arith}
 use lib.Count.{ones}
 use lib.IntN.{ℤ}
@@ -74,9 +75,9 @@ module _ (ns : List ℤ) (x : Corner) where
   abbrev reported : Outcome Report Nothing
   reported = outcome (done 0) (reportOn S x) nothing
 
-  -- the values of the verdict alone, beside a report
+  -- the values of a verdict, by whether it passes, beside a report
   values-by : (v : Verdict) (t : Bool) (o : Report) → passes v ≡ t → outcome (verdictValues v) o nothing ≡ outcome (cond t (done 0) (refused 1 v)) o nothing
-  values-by v t o p = ap (λ t. outcome (cond t (done 0) (refused 1 v)) o nothing) p
+  values-by v t o p = ap (λ b. outcome (cond b (done 0) (refused 1 v)) o nothing) p
 
   pub corner-refused : (v : Verdict) → Checked ns v → passes v ≡ false → CornerPromise ns x (cornerAnswer v 0 0 0)
   unfolding CornerPromise
@@ -154,12 +155,12 @@ module _ (ns : List ℤ) (x : ℤ) where
       go true p = plane-part ns x (passes-map ns p)
       go false p = refl
 
-  -- of a list that lies at p, the part from where the plane starts to where it ends
-  pub plane-said : (p : Pointer) (r : Ends) (o : ℕ) → EndsPromise ns x r → o ≡ p .1 + r .start * numberBytes
-      → PlanePromise ns p x (take (r .end - r .start) (drop (r .start) ns)) (p .0, o)
+  -- of a list that lies at p, the part from where the plane starts to where it ends; its offset as a machine adds it up
+  pub plane-said : (p : Pointer) (r : Ends) → EndsPromise ns x r
+      → PlanePromise ns p x (take (r .end - r .start) (drop (r .start) ns)) (p .0, r .start * numberBytes + p .1)
   unfolding PlanePromise
-  plane-said p r o h e =
-      ap (λ n. planeSays (take (r .end - r .start) (drop (r .start) ns)) (p .0, n)) e
+  plane-said p r h =
+      ap (λ n. planeSays (take (r .end - r .start) (drop (r .start) ns)) (p .0, n)) (add-comm (r .start * numberBytes) (p .1))
       ∙ ap (λ q. planeSays (take (q .end - q .start) (drop (q .start) ns)) (behind p (q .start))) (h .answer)
       ∙ ap (λ l. planeSays l (behind p (planeEnds ns x .start))) plane-cut
 

@@ -1,9 +1,10 @@
 -- What the questions about one map promise (document 01, "What can be asked" and "Why a call comes back").
 --   cellValues, cellYes, cellSays    document 01's values of each answer of the cell query, and its yes or no; what an answer comes to
 --   cellOutcome, CellPromise      what the cell query comes to: yes or no; for a list that is not valid its refusal, and no; and its promise
---   Report, cornerSays            the mask of the cells round a corner, how many they are, and the kind; what an answer of the corner report comes to
+--   Report, reportOn, cornerSays  the mask of the cells round a corner, how many they are, and the kind; what an answer of the corner report comes to
 --   cornerOutcome, CornerPromise  what the corner report comes to; 0 in all three for a list that is not valid; and its promise
 --   onPlane, planeNumbers         the numbers of the vertices with a focus number; none for a list that is not valid
+--   ofValid                       0 for a list that is not valid
 --   beforePlane, throughPlane, planeEnds, EndsPromise    where they stand in the list: from all numbers of the vertices with a lower focus number
 --                                 to those of the vertices with a focus number that is not higher; from 0 to 0 for a list that is not valid
 --   Pointer, numberBytes, behind  where a slice lies, as its reference has it; how many bytes a number takes; so many numbers behind, in the same object
@@ -73,7 +74,6 @@ CornerPromise ns v r = cornerSays r ≡ cornerOutcome ns v
 
 -- ---- planes
 
--- 0 for a list that is not valid
 abbrev pub ofValid : List ℤ → ℕ → ℕ
 ofValid ns n = cond (passes (verdict ns)) n 0
 

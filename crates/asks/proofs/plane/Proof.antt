@@ -1,4 +1,4 @@
--- `asks::plane` meets its contract: the part from where the plane starts to where it ends holds the plane's numbers.
+-- `asks::plane` meets its contract: the part from where the plane starts to where it ends holds the plane's numbers, and lies there.
 use mathlib.Core.Path.{subst}
 use Prim.Native.Nat.{_≤_}
 use native.Mathlib.Omega.{arith}
@@ -36,7 +36,7 @@ part-result-end : tie.Need-part-result-end
 part-result-end c = omega (arith, within c)
 
 returns : tie.Need-returns
-returns c = plane-said _ _ _ _ _ (ends-is (c .before)) (omega arith)
+returns c = plane-said _ _ _ _ (ends-is (c .before))
 
 pub plane-spec : {M : Type 1} → statement M
 plane-spec =
