@@ -1,5 +1,4 @@
 -- Lists in results, from keys: what section and split come to.
---   length-numbers, length-pairs            how many numbers the vertices, or the pairs, of a list have
 --   fits-room                               a list that fits has room
 --   pairs-no-room, pairs-done               pairs in a result, where they do not fit and where they do
 --   low-short, high-short, both-fit         two lists in two results, by which of them fit
@@ -8,19 +7,19 @@
 -- Assumes nothing.
 use mathlib.Core.Path.{_≡_, refl, sym, _∙_, ap, ap₂}
 use mathlib.Core.Bool.{Bool, true, false, _&&_, cond}
-use mathlib.Core.List.{List, [], _∷_, _++_, map}
+use mathlib.Core.List.{List, _++_, map}
 use Prim.Native.Nat.{ℕ, _*_, _≤_}
-use native.Mathlib.Omega.{arith}
 use borrow.Author.Tests.{leb-true}
 use lib.Dec.{leb}
 use lib.IntN.{ℤ}
 use lib.ListN.{length, drop, length-map}
-use Rattle.meaning.specs.Numbers.{Corner, Pair}
+use Rattle.meaning.specs.Numbers.{Corner}
 use Rattle.meaning.specs.Lists.{numbers, Valid, mostVertices}
 use Rattle.meaning.specs.Operations.{pairNumbers}
 use Rattle.meaning.specs.Outcomes.{Outcome, outcome, Nothing, nothing, doneBoth, noRoomFor, kept, perVertex, perPair, fits, front, placed}
 use Rattle.meaning.proofs.Integers.{and-left}
 use Rattle.meaning.proofs.Outcomes.{placed-fits, placed-short}
+use Rattle.meaning.proofs.Made.{length-numbers, length-pairs}
 use Rattle.codes.specs.Keys.{ofKey}
 use Rattle.keys.specs.Parts.{pairOfKey}
 use Rattle.cuts.specs.declared.Sectioned.the-variants as section
@@ -28,14 +27,6 @@ use Rattle.cuts.specs.declared.Halved.the-variants as split
 use Rattle.cuts.specs.Answers.{sectionSays, Halves, halves, splitSays, placedHalves}
 
 -- ---- lists in results
-
-pub length-pairs : (ps : List Pair) → length (pairNumbers ps) ≡ perPair * length ps
-length-pairs [] = refl
-length-pairs (p ∷ ps) = omega (arith, length-pairs ps)
-
-pub length-numbers : (l : List Corner) → length (numbers l) ≡ perVertex * length l
-length-numbers [] = refl
-length-numbers (v ∷ l) = omega (arith, length-numbers l)
 
 pub fits-room : {A : Type 0} (each : ℕ) (l : List A) (room : ℕ) → fits each l room ≡ true → each * length l ≤ room
 fits-room each l room e = leb-true (each * length l) room (and-left (leb (each * length l) room) _ e)

@@ -1,6 +1,5 @@
 -- From the one list of an operation to what a join comes to.
 --   join-settled     two outcomes that the promise allows are equal: the values tell the answers apart
---   length-numbers   a list has three numbers for each vertex
 --   made, not-made   a list that fits in a result is placed as promised; one that does not fit is refused
 --   joined, no-room, first-refused, second-refused, bad-low, bad-high    the ends of a join
 -- Assumes nothing.
@@ -23,6 +22,7 @@ use Rattle.meaning.specs.declared.Verdict.{Verdict}
 use Rattle.meaning.specs.Outcomes.{Values, Outcome, outcome, Nothing, nothing, done, refused, badOperation, kept, named, checked, perVertex, fits, placed}
 use Rattle.meaning.proofs.Integers.{leb-by}
 use Rattle.meaning.proofs.Outcomes.{verdictBy, verdict-back, checked-next, checked-refused, placed-fits, placed-short}
+use Rattle.meaning.proofs.Made.{length-numbers}
 use Rattle.codes.specs.Keys.{keyOf, ofKey}
 use Rattle.keys.specs.Parts.{KeyOk}
 use Rattle.keys.proofs.Corners.{keys-ok}
@@ -61,10 +61,6 @@ join-settled op a b before r s x y h k =
 
 pub triple-room : {n room : ℕ} → n ≡ min mostVertices (room / 3) → (n ≤ mostVertices) × (3 * n ≤ room)
 triple-room e = (omega arith, omega arith)
-
-pub length-numbers : (l : List Corner) → length (numbers l) ≡ 3 * length l
-length-numbers [] = refl
-length-numbers (v ∷ l) = omega (arith, length-numbers l)
 
 -- room for as many as fit is room for the list
 as-fits : (l : List Corner) (room most : ℕ) → most ≡ min mostVertices (room / 3) → leb (length l) most ≡ fits perVertex l room

@@ -15,5 +15,6 @@ pub mod Few
 pub mod KindTable
 pub mod Checked
 pub mod Outcomes
+pub mod Made
 pub mod Bits
 pub mod Examples

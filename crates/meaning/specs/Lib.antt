@@ -5,6 +5,7 @@ pub mod Lists
 pub mod Verdicts
 pub mod Outcomes
 pub mod OneList
+pub mod Made
 pub mod Operations
 pub mod Nearest
 pub mod Kinds

@@ -97,8 +97,7 @@ module _ (ns : List ℤ) where
   cell-read c r h =
       let o = cellOutcome ns c in
       let b = bit-few (o .given) in
-      let none = none-made ns false (permitted (vertices ns) c) in
-      (
+      let none = none-made ns false (permitted (vertices ns) c) in (
         beside (o .values) (cell-few ns c) none (bit (o .given)) r (omega arith) h,
         omega (arith, low-half (o .values) (cell-few ns c) none (bit (o .given)) r (omega arith) h),
       )
@@ -217,8 +216,7 @@ distance-read ns w r wish h =
     let few = nearest-few ns w (h .at) in
     let facts : (o .given .far < 2 ^ 32) × (o .values .count ≡ 0) × (o .values .second ≡ 0) =
     nearest-cases ns w (h .at) (h .nearest) (λ o. (o .given .far < 2 ^ 32) × (o .values .count ≡ 0) × (o .values .second ≡ 0))
-    (λ p. (omega arith, refl, refl)) (omega arith, refl, refl) (λ f. (distance-few w (h .at) wish f, refl, refl)) in
-    (
+    (λ p. (omega arith, refl, refl)) (omega arith, refl, refl) (λ f. (distance-few w (h .at) wish f, refl, refl)) in (
       beside (o .values) few (facts .1, facts .2) (o .given .far) r (facts .0) (h .answer),
       low-half (o .values) few (facts .1, facts .2) (o .given .far) r (facts .0) (h .answer),
     )
