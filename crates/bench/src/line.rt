@@ -1,32 +1,31 @@
 // One line for each question: the example's number, what is asked, and the answer, taken apart as include/travelmap.h says.
 use crate::say::say;
 use crate::say::say_bits;
+use crate::say::say_list;
 use crate::say::say_number;
 use crate::say::say_signed;
 use crate::say::say_three;
 
-// What one unit of a part weighs in an answer: the number and the place, or where a plane's part starts, or the kind, or how many cells.
-const NUMBER: u64 = 72057594037927936;
+// Where each part of an answer begins: the number; the place, or where a plane's part starts, or the focus of a cell; the kind, or the first shift of a
+// cell; how many cells.
+const NUMBER: u64 = 1 << 56;
 
-const PLACE: u64 = 4294967296;
+const PLACE: u64 = 1 << 32;
 
-const KIND: u64 = 65536;
+const FOCUS: u64 = PLACE;
 
-const HOW_MANY: u64 = 256;
+const KIND: u64 = 1 << 16;
 
-// The same in an answer of nearest: the number, the focus and the first shift.
-const NEAREST_NUMBER: u64 = 281474976710656;
+const FIRST: u64 = KIND;
 
-const FOCUS: u64 = 4294967296;
-
-const FIRST: u64 = 65536;
+const HOW_MANY: u64 = 1 << 8;
 
 // How many values a place, a distance, and each part of a corner report may have.
-const PLACES: u64 = 65536;
+const PLACES: u64 = 1 << 16;
 
-const DISTANCES: u64 = 4294967296;
+const DISTANCES: u64 = 1 << 32;
 
-const BYTES: u64 = 256;
+const BYTES: u64 = 1 << 8;
 
 // The check of a list: the number and the place.
 pub fn check_line(example: &[u8], list: &[i16]) {
@@ -67,7 +66,7 @@ pub fn corner_line(example: &[u8], list: &[i16], focus: i16, first: i16, second:
     say(b"\n");
 }
 
-// The plane query: where the part starts, and its length.
+// The plane query: where the part starts, and its length; and the part itself.
 pub fn plane_line(example: &[u8], list: &[i16], focus: i16) {
     let answer = travelmap::travelmap_plane(list, focus);
     say(example);
@@ -76,6 +75,8 @@ pub fn plane_line(example: &[u8], list: &[i16], focus: i16) {
     say(b":");
     say_number(answer / PLACE);
     say_number(answer % PLACE);
+    say(b":");
+    say_list(asks::plane(list, focus));
     say(b"\n");
 }
 
@@ -86,7 +87,7 @@ pub fn nearest_lines(example: &[u8], list: &[i16], focus: i16, first: i16, secon
     say(b" nearest");
     say_three(focus, first, second);
     say(b":");
-    say_number(answer / NEAREST_NUMBER);
+    say_number(answer / NUMBER);
     say_bits(answer / FOCUS);
     say_bits(answer / FIRST);
     say_bits(answer);
