@@ -4,6 +4,7 @@ ghost use mathlib.Core.Path.{_≡_};
 ghost use Prim.Native.Nat.{_*_, _/_, _≤_, min};
 ghost use lib.ListN.{length};
 ghost use Rattle.meaning.specs.Lists.{vertices, mostVertices, Valid};
+ghost use Rattle.meaning.specs.Outcomes.{perVertex};
 ghost use Rattle.meaning.specs.Operations.{exclusive, joinedList};
 ghost use Rattle.sweep.specs.Room.{Filled, InRoom};
 ghost use Rattle.joins.specs.Join.{JoinMade};
@@ -38,7 +39,7 @@ const ROOM: usize = 2 * MOST_VERTICES;
 
 // How many vertices a result of so many numbers has room for, at most as many as a list may have.
 fn fitting(numbers: usize) -> usize
-    ensures { λ r. ⌜ r ≡ min mostVertices (numbers / 3) ⌝ }
+    ensures { λ r. ⌜ r ≡ min mostVertices (numbers / perVertex) ⌝ }
 {
     let room = numbers / NUMBERS;
     if MOST_VERTICES < room {
@@ -52,7 +53,7 @@ fn fitting(numbers: usize) -> usize
 fn join_small(op: u32, a: &[i16], b: &[i16], most: usize, out: &mut [i16]) -> usize
     requires { ⌜ Valid (vertices (now a)) × Valid (vertices (now b)) ⌝ }
     requires { ⌜ (length (vertices (now a)) ≤ 32) × (length (vertices (now b)) ≤ 32) ⌝ }
-    requires { ⌜ (32 ≤ most) × (most ≤ mostVertices) × (3 * most ≤ length (now out)) ⌝ }
+    requires { ⌜ (32 ≤ most) × (most ≤ mostVertices) × (perVertex * most ≤ length (now out)) ⌝ }
     ensures { λ r. ⌜ InRoom op (now (a .entry)) (now (b .entry)) most (now (out .entry)) r (now (out .exit)) ⌝ }
 {
     let count = sweep::join_few(op, a, b, FEW, out);
@@ -65,7 +66,7 @@ fn join_small(op: u32, a: &[i16], b: &[i16], most: usize, out: &mut [i16]) -> us
 // Joins two valid lists by the sweep where there is room for most vertices.
 fn join_by_sweep(op: u32, a: &[i16], b: &[i16], most: usize, out: &mut [i16]) -> usize
     requires { ⌜ Valid (vertices (now a)) × Valid (vertices (now b)) ⌝ }
-    requires { ⌜ (most ≤ mostVertices) × (3 * most ≤ length (now out)) ⌝ }
+    requires { ⌜ (most ≤ mostVertices) × (perVertex * most ≤ length (now out)) ⌝ }
     ensures { λ r. ⌜ InRoom op (now (a .entry)) (now (b .entry)) most (now (out .entry)) r (now (out .exit)) ⌝ }
 {
     if NUMBERS * FEW < a.len() {
@@ -83,7 +84,7 @@ fn join_by_sweep(op: u32, a: &[i16], b: &[i16], most: usize, out: &mut [i16]) ->
 // Joins two valid lists by exclusive or, one merge, where there is room for most vertices.
 fn join_by_merge(a: &[i16], b: &[i16], most: usize, out: &mut [i16]) -> usize
     requires { ⌜ Valid (vertices (now a)) × Valid (vertices (now b)) ⌝ }
-    requires { ⌜ 3 * most ≤ length (now out) ⌝ }
+    requires { ⌜ perVertex * most ≤ length (now out) ⌝ }
     ensures { λ r. ⌜
         Filled (joinedList exclusive (now (a .entry)) (now (b .entry))) most (now (out .entry)) r (now (out .exit))
         ⌝ }
@@ -105,7 +106,7 @@ fn join_by_merge(a: &[i16], b: &[i16], most: usize, out: &mut [i16]) -> usize
 // that is more.
 fn join_valid(op: u32, a: &[i16], b: &[i16], most: usize, out: &mut [i16]) -> usize
     requires { ⌜ Valid (vertices (now a)) × Valid (vertices (now b)) ⌝ }
-    requires { ⌜ (most ≤ mostVertices) × (3 * most ≤ length (now out)) ⌝ }
+    requires { ⌜ (most ≤ mostVertices) × (perVertex * most ≤ length (now out)) ⌝ }
     ensures { λ r. ⌜ InRoom op (now (a .entry)) (now (b .entry)) most (now (out .entry)) r (now (out .exit)) ⌝ }
 {
     if op == EXCLUSIVE {
