@@ -2,7 +2,7 @@
 //! the size of the library.
 
 use crate::cases::{Case, Cases, ASKED};
-use crate::functions::FUNCTIONS;
+use crate::functions::{chosen, FUNCTIONS};
 use crate::lib_calls::EMULATED;
 use crate::summary::{growth_table, join_table, line_table, worst_table, Join, Line};
 use crate::{size, stack};
@@ -173,9 +173,9 @@ fn nanoseconds(call: &mut impl FnMut(usize) -> u64, calls: usize) -> f64 {
 }
 
 /// Times every function and writes the tables of times. Were all answers the same?
-fn times(cases: &Cases) -> bool {
+fn times(cases: &Cases, names: &[String]) -> bool {
     let mut table = Table::of_times(ROUND, ROUNDS);
-    for function in FUNCTIONS {
+    for function in chosen(names) {
         (function.time)(cases.of(function.name), &mut table);
     }
     println!("{}", worst_table(&table.lines, &table.joins));
@@ -216,10 +216,13 @@ pub fn stack_table() -> bool {
     stacks(&Cases::new())
 }
 
-/// Writes all tables. Is all as it should be?
-pub fn bench() -> bool {
+/// Writes all tables; those of times are of the functions that are named, or of all. Is all as it should be?
+pub fn bench(names: &[String]) -> bool {
     let cases = Cases::new();
-    let same = times(&cases);
+    let same = times(&cases, names);
+    if !names.is_empty() {
+        return same;
+    }
     let measured = EMULATED || stacks(&cases);
     let sized = size::size_table();
     same && measured && sized

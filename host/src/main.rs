@@ -27,7 +27,7 @@ host maps FOLDER [WORD...]       holds each NAME.answer to NAME.map, and the pro
 host program CALLS WORD...       compares a compiled program, run as these words for each of CALLS inputs
 host streams WORD...             tries the program with input that comes in pieces, and with outputs that take nothing
 host selftest                    checks that the comparison reports wrong answers, and no right ones
-host bench                       times every function beside ordinary Rust, and measures stack and size: Markdown tables
+host bench [NAME...]             times every function (or those named) beside ordinary Rust; of all, stack and size too: Markdown tables
 host stack                       measures the stack of every function alone";
 
 /// Runs one command: status 0 when all is as it should be, 1 when not, 2 for a wrong command.
@@ -41,7 +41,7 @@ fn main() -> ExitCode {
         (Some("program"), Ok(calls)) => functions::program::compare_command(calls, rest),
         (Some("streams"), _) => streams::streams_command(&words[1..]),
         (Some("selftest"), _) => selftest::selftest(),
-        (Some("bench"), _) => bench::bench(),
+        (Some("bench"), _) => bench::bench(&words[1..]),
         (Some("stack"), _) => bench::stack_table(),
         _ => {
             eprintln!("{USAGE}");

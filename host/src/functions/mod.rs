@@ -75,6 +75,15 @@ pub const FUNCTIONS: &[Function] = &[
     },
 ];
 
+/// The functions whose names end as one of these, or all.
+pub fn chosen(names: &[String]) -> Vec<&'static Function> {
+    let named = |f: &&Function| names.iter().any(|n| f.name.ends_with(n.as_str()));
+    FUNCTIONS
+        .iter()
+        .filter(|f| names.is_empty() || named(f))
+        .collect()
+}
+
 /// Compares a function of a list and three numbers; `number` reads the refusal in an answer.
 fn compare_asked(
     make_list: impl Fn(&mut Rng) -> Vec<i16>,

@@ -8,6 +8,7 @@ mod join;
 mod lists;
 mod nearest;
 mod program;
+mod rank;
 mod rows;
 
 pub use asks::{cell, corner, make_box, plane};
