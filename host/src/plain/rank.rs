@@ -69,6 +69,16 @@ impl Wish {
         self.value(axis, code)
     }
 
+    /// The least rank of a cell of a box.
+    #[inline]
+    pub fn nearest_in(&self, ends: &Ends) -> u64 {
+        let value = |axis: usize| {
+            let [low, high] = ends[axis];
+            self.value(axis, self.codes[axis].clamp(low, high - 1))
+        };
+        (0..3).map(value).sum()
+    }
+
     /// The cell of a rank, with its distance from the wish.
     pub fn found(&self, rank: u64) -> Found {
         let code = |place: u32| (rank >> place & ((1 << BITS) - 1)) as i16 + (LOW - 1);

@@ -1,14 +1,13 @@
 //! The tables: a line for each function and map, wrong answers reported, stack and size measured as they are.
 
 use super::Test;
-use crate::bench::Table;
 use crate::cases::{Case, Cases};
 use crate::functions::*;
 use crate::size::{of_archive, Size};
 use crate::summary::{growth_table, worst_table, Line};
+use crate::table::{Pace, Table};
 use crate::{plain, stack};
 use std::hint::black_box;
-use std::time::Duration;
 
 /// The most vertices of maps whose joins are timed here.
 const MOST: usize = 256;
@@ -19,12 +18,12 @@ const FRAME: usize = 1_000;
 
 /// A line for each map, and wrong answers reported.
 fn times(test: &mut Test) {
-    let cases = Cases::new();
+    let cases = Cases::ordinary();
     let others = cases.of("");
     let joins = cases.of("travelmap_join").iter();
     let joins: Vec<Case> = joins.filter(|c| c.vertices <= MOST).cloned().collect();
     let full = cases.of("travel");
-    let mut table = Table::of_times(Duration::from_nanos(1), 1);
+    let mut table = Table::of_times(Pace::ONCE);
     check::time(plain::check, others, &mut table);
     make_box::time(plain::make_box, others, &mut table);
     cell::time(plain::cell, others, &mut table);
@@ -79,6 +78,7 @@ fn line(vertices: usize, ours: f64, plain: f64) -> Line {
         function: "check".to_string(),
         map: "boxes".to_string(),
         vertices,
+        asked: String::new(),
         ours,
         plain,
     }
