@@ -88,6 +88,15 @@ impl Case {
         }
     }
 
+    /// Wishes as slices of many, three numbers each: of a slow map one for each wish, that wish and no other; else one of
+    /// all.
+    pub fn slices(&self, wishes: &[[i16; 3]]) -> Vec<Vec<i16>> {
+        match self.points.len() {
+            0 => vec![wishes.concat()],
+            _ => wishes.iter().map(|wish| wish.repeat(ASKED)).collect(),
+        }
+    }
+
     /// The case of two maps; codes between those of the first map's vertices are asked.
     fn of(name: &str, [one, other]: [Vec<Corner>; 2], rng: &mut Rng) -> Case {
         let asked = (0..ASKED)

@@ -161,7 +161,7 @@ impl Search {
         ]
     }
 
-    /// Tries maps once; what seems to be a find is timed again, and kept if it is one still.
+    /// Tries maps; what seems to be a find is timed again, and well, and kept if it is one still.
     fn step(&mut self) {
         let (maps, vertices) = self.next();
         self.tried += 1;
@@ -170,7 +170,7 @@ impl Search {
         if !first.iter().any(|line| found(self, line)) {
             return;
         }
-        for line in self.lines(&maps, vertices, Pace::SEARCH) {
+        for line in self.lines(&maps, vertices, Pace::SURE) {
             if !first
                 .iter()
                 .any(|l| l.function == line.function && found(self, l))

@@ -16,6 +16,7 @@ pub mod join;
 pub mod make_box;
 pub mod nearest;
 pub mod nearest_distance;
+pub mod nearest_many;
 pub mod plane;
 pub mod program;
 pub mod section;

@@ -18,7 +18,7 @@ pub use check::check;
 pub use cuts::{section, split};
 pub use join::join;
 pub use lists::{join_by_lists, join_word_for_word};
-pub use nearest::{nearest, nearest_distance};
+pub use nearest::{nearest, nearest_distance, nearest_many};
 pub use program::program;
 pub use tree::Tree;
 

@@ -40,6 +40,25 @@ pub fn nearest_distance(list: &[i16], wish: [i16; 3]) -> u64 {
     best(list, wish).map_or_else(|refusal| refusal, |(distance, _)| distance)
 }
 
+/// The nearest permitted cells to many wishes.
+#[inline(never)]
+pub fn nearest_many(list: &[i16], wishes: &[i16], result: &mut [i16]) -> u64 {
+    let (wishes, []) = wishes.as_chunks::<3>() else {
+        return refusal(9, 0, 0);
+    };
+    let ready = match Ready::checked(list) {
+        Err(refusal) => return refusal,
+        Ok(ready) => ready,
+    };
+    if 3 * wishes.len() > result.len() {
+        return refusal(6, 0, 0);
+    }
+    for (to, wish) in result.as_chunks_mut().0.iter_mut().zip(wishes) {
+        (_, *to) = ready.best(*wish);
+    }
+    wishes.len() as u64
+}
+
 /// The nearest cell with its distance, or the refusal.
 fn best(list: &[i16], wish: [i16; 3]) -> Result<Found, u64> {
     Ok(Ready::checked(list)?.best(wish))
