@@ -6,17 +6,64 @@ use crate::families::{recipe, KNOBS};
 /// A slow map with one to be joined with it, each by its family and knobs.
 pub struct Find {
     pub name: &'static str,
-    maps: [(&'static str, [u8; KNOBS]); 2],
+    maps: [Made; 2],
 }
 
-/// All finds.
-pub const FINDS: &[Find] = &[Find {
-    name: "nested boxes and far cells",
-    maps: [
-        ("nested", [0, 1, 1, 0, 0, 0, 0, 1]),
-        ("nested", [1, 1, 1, 0, 0, 0, 0, 1]),
-    ],
-}];
+/// All finds, with what was slow.
+pub const FINDS: &[Find] = &[
+    // nearest, the distance and the program, by a walk
+    find(
+        "nested boxes at the high end, far cells",
+        ("nested", [0, 2, 2, 0, 0, 0, 0, 1]),
+        ("nested", [1, 2, 2, 0, 0, 0, 0, 1]),
+    ),
+    find(
+        "nested boxes off the middle, far cells",
+        ("nested", [0, 3, 0, 0, 2, 0, 0, 1]),
+        ("nested", [1, 3, 0, 0, 2, 0, 0, 1]),
+    ),
+    // section, split and the joins
+    find(
+        "nested boxes of the whole range, far cells",
+        ("nested", [0, 1, 0, 0, 0, 0, 0, 0]),
+        ("nested", [1, 1, 0, 0, 0, 0, 0, 0]),
+    ),
+    // without
+    find(
+        "fans, with bars",
+        ("fans", [0, 1, 0, 0, 1, 0, 0, 0]),
+        ("bars", [1, 1, 0, 0, 0, 2, 0, 0]),
+    ),
+    // overlap
+    find(
+        "crossed slabs, with bars",
+        ("crossed", [0, 1, 1, 0, 3, 2, 0, 1]),
+        ("bars", [3, 2, 0, 13, 1, 0, 4, 0]),
+    ),
+    // the check, and all that is little more than the check
+    find(
+        "crowded boxes",
+        ("crowded", [0, 0, 0, 0, 0, 0, 0, 0]),
+        ("crowded", [1, 0, 0, 0, 0, 0, 0, 0]),
+    ),
+    // split
+    find(
+        "random boxes, far cells",
+        ("random", [1, 1, 2, 40, 2, 0, 1, 0]),
+        ("random", [0, 1, 2, 41, 2, 0, 1, 0]),
+    ),
+];
+
+/// A family by its name, and knobs.
+type Made = (&'static str, [u8; KNOBS]);
+
+/// A find with this name.
+const fn find(name: &'static str, one: Made, other: Made) -> Find {
+    Find {
+        name,
+        maps: [one, other],
+    }
+}
 
 /// The case of a find with so many vertices.
 pub fn case(find: &Find, vertices: usize) -> Option<Case> {

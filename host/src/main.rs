@@ -4,6 +4,7 @@
 
 mod bench;
 mod cases;
+mod clock;
 mod compare;
 mod damage;
 mod families;

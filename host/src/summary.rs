@@ -27,7 +27,7 @@ pub struct Join {
 }
 
 /// The functions with the ratio that each may reach; the joins stand behind them.
-const BARS: [(&str, u32); 10] = [
+const BARS: [(&str, u32); 11] = [
     ("check", 2),
     ("box", 2),
     ("cell", 2),
@@ -35,9 +35,10 @@ const BARS: [(&str, u32); 10] = [
     ("plane", 2),
     ("section", 4),
     ("split", 4),
-    ("nearest", 5),
-    ("distance", 5),
-    ("program", 5),
+    ("nearest", 3),
+    ("distance", 3),
+    ("nearest many", 3),
+    ("program", 3),
 ];
 /// The ratio that a join may reach beside a sweep over lists.
 const JOIN_BAR: u32 = 5;

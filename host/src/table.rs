@@ -1,6 +1,7 @@
 //! Lines of what calls take, each of one function and one map: times beside ordinary Rust, or stack.
 
 use crate::cases::{Case, ASKED};
+use crate::clock;
 use crate::stack;
 use crate::summary::{Join, Line};
 use std::hint::black_box;
@@ -32,8 +33,8 @@ impl Pace {
     };
     /// The pace of a search among many maps.
     pub const SEARCH: Pace = Pace {
-        round: Duration::from_micros(2),
-        rounds: 3,
+        round: Duration::from_micros(20),
+        rounds: 2,
         patience: Duration::from_millis(5),
         points: Duration::from_millis(200),
     };
@@ -276,11 +277,11 @@ fn calls_a_round(timer: &mut Timer, pace: Pace) -> (usize, f64) {
     }
 }
 
-/// Nanoseconds a call, over so many calls.
+/// Nanoseconds of this thread a call, over so many calls.
 fn nanoseconds(call: &mut impl FnMut(usize) -> u64, calls: usize) -> f64 {
-    let start = Instant::now();
+    let start = clock::now();
     for turn in 0..calls {
         black_box(call(black_box(turn)));
     }
-    start.elapsed().as_nanos() as f64 / calls as f64
+    (clock::now() - start).as_nanos() as f64 / calls as f64
 }
