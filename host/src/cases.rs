@@ -11,8 +11,8 @@ use crate::rng::Rng;
 
 /// Vertices of the maps that are timed.
 pub const SIZES: [usize; 4] = [8, 64, 256, MOST_VERTICES];
-/// Vertices of the slow maps that are timed: growth is seen between the two.
-pub const SLOW_SIZES: [usize; 2] = [256, MOST_VERTICES];
+/// Vertices of the slow maps that are timed: growth is seen between the last two.
+pub const SLOW_SIZES: [usize; 3] = [64, 256, MOST_VERTICES];
 /// Numbers that are asked of a map in turn.
 pub const ASKED: usize = 16;
 /// The seed of the maps.

@@ -1,6 +1,6 @@
 //! The slow maps that `host slow` found, by name: every function is timed on each of them.
 
-use crate::cases::Case;
+use crate::cases::{Case, SLOW_SIZES};
 use crate::families::{recipe, KNOBS};
 
 /// A slow map with one to be joined with it, each by its family and knobs.
@@ -13,9 +13,9 @@ pub struct Find {
 pub const FINDS: &[Find] = &[
     // nearest, the distance and the program, by a walk
     find(
-        "nested boxes at the high end, far cells",
-        ("nested", [0, 2, 2, 0, 0, 0, 0, 1]),
-        ("nested", [1, 2, 2, 0, 0, 0, 0, 1]),
+        "nested boxes at the low end, far cells",
+        ("nested", [0, 2, 0, 0, 0, 0, 0, 1]),
+        ("nested", [1, 2, 0, 0, 0, 0, 0, 1]),
     ),
     find(
         "nested boxes off the middle, far cells",
@@ -28,13 +28,17 @@ pub const FINDS: &[Find] = &[
         ("nested", [0, 1, 0, 0, 0, 0, 0, 0]),
         ("nested", [1, 1, 0, 0, 0, 0, 0, 0]),
     ),
-    // without
+    // the joins
+    find(
+        "combs, with nested boxes",
+        ("combs", [0, 2, 0, 0, 1, 0, 0, 0]),
+        ("nested", [1, 1, 0, 0, 1, 0, 0, 0]),
+    ),
     find(
         "fans, with bars",
         ("fans", [0, 1, 0, 0, 1, 0, 0, 0]),
         ("bars", [1, 1, 0, 0, 0, 2, 0, 0]),
     ),
-    // overlap
     find(
         "crossed slabs, with bars",
         ("crossed", [0, 1, 1, 0, 3, 2, 0, 1]),
@@ -45,6 +49,17 @@ pub const FINDS: &[Find] = &[
         "crowded boxes",
         ("crowded", [0, 0, 0, 0, 0, 0, 0, 0]),
         ("crowded", [1, 0, 0, 0, 0, 0, 0, 0]),
+    ),
+    find(
+        "crowded boxes in the middle, far cells",
+        ("crowded", [0, 3, 1, 0, 0, 0, 0, 0]),
+        ("crowded", [0, 0, 1, 0, 0, 0, 0, 0]),
+    ),
+    // cell and corner beside ordinary Rust
+    find(
+        "a cluster of cells",
+        ("random", [0, 0, 0, 0, 0, 0, 0, 0]),
+        ("random", [0, 0, 0, 1, 0, 0, 0, 0]),
     ),
     // split
     find(
@@ -65,8 +80,9 @@ const fn find(name: &'static str, one: Made, other: Made) -> Find {
     }
 }
 
-/// The case of a find with so many vertices.
+/// The case of a find with about so many vertices; none where they are not even half as many, but for the smallest size.
 pub fn case(find: &Find, vertices: usize) -> Option<Case> {
     let maps = find.maps.map(|(family, knobs)| recipe(family, knobs));
-    Case::slow(find.name, maps, vertices)
+    let full = |case: &Case| vertices == SLOW_SIZES[0] || 2 * case.vertices > vertices;
+    Case::slow(find.name, maps, vertices).filter(full)
 }

@@ -211,7 +211,7 @@ impl Search {
         let ours = |line: &Line| line.ours;
         let slowest = finds.slowest.as_ref()?;
         let worst = finds.worst.as_ref()?;
-        let [low, high] = SLOW_SIZES.map(|size| self.timed(name, slowest, size, ours));
+        let [_, low, high] = SLOW_SIZES.map(|size| self.timed(name, slowest, size, ours));
         let (low, high) = (low?, high?);
         let mut check = Search::new(&FUNCTIONS[0], &[]);
         let check = check.timed("check", slowest, MOST_VERTICES, ours)?;

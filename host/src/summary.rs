@@ -249,7 +249,7 @@ pub fn slow_table(lines: &[Line], joins: &[Join]) -> String {
         sized.cloned().collect::<Vec<Line>>()
     };
     let row = |function: &str, map: &str| {
-        let [low, high] = SLOW_SIZES.map(|size| of(function, map, Some(size)));
+        let [_, low, high] = SLOW_SIZES.map(|size| of(function, map, Some(size)));
         let (low, high) = (slowest(low.iter())?, slowest(high.iter())?);
         let checks = of("check", map, Some(high.size()));
         let check = slowest(checks.iter())?;
@@ -273,7 +273,7 @@ pub fn slow_table(lines: &[Line], joins: &[Join]) -> String {
     let rows = functions
         .iter()
         .flat_map(|function| FINDS.iter().filter_map(|find| row(function, find.name)));
-    let [low, high] = SLOW_SIZES.map(thousands);
+    let [_, low, high] = SLOW_SIZES.map(thousands);
     table(
         &format!("| function | map, asked | {low}, ns | {high}, ns | power | times the check | worst ratio |"),
         rows,

@@ -182,25 +182,15 @@ impl Table {
             .take_while(|turn| *turn == 0 || start.elapsed() < pace.points)
             .map(|turn| times(turn, Pace::SEARCH))
             .collect();
-        let most = |of: fn(&[f64; 2]) -> f64| {
-            (0..found.len())
-                .max_by(|a, b| of(&found[*a]).total_cmp(&of(&found[*b])))
-                .unwrap_or(0)
-        };
-        let mut noted = vec![most(|[ours, _]| *ours), most(|[ours, plain]| ours / plain)];
-        noted.dedup();
-        let lines: Vec<(usize, [f64; 2])> = match pace == Pace::SEARCH {
-            true => noted.into_iter().map(|turn| (turn, found[turn])).collect(),
-            false => noted
-                .into_iter()
-                .map(|turn| (turn, times(turn, pace)))
-                .collect(),
-        };
+        for turn in noted(&found) {
+            let times = match pace == Pace::SEARCH {
+                true => found[turn],
+                false => times(turn, pace),
+            };
+            self.line(function, case, &case.points[turn], times);
+        }
         if (0..found.len()).any(|turn| ours(turn) != plain(turn)) {
             self.differs(function, case);
-        }
-        for (turn, times) in lines {
-            self.line(function, case, &case.points[turn], times);
         }
     }
 
@@ -238,6 +228,17 @@ impl Table {
             rows,
         });
     }
+}
+
+/// The turn that took longest, and the one that took longest beside ordinary Rust, where that is another.
+fn noted(times: &[[f64; 2]]) -> Vec<usize> {
+    let most = |of: fn(&[f64; 2]) -> f64| {
+        let longer = |a: &usize, b: &usize| of(&times[*a]).total_cmp(&of(&times[*b]));
+        (0..times.len()).max_by(longer)
+    };
+    let [slowest, worst] = [most(|[ours, _]| *ours), most(|[ours, plain]| ours / plain)];
+    let another = worst.filter(|_| worst != slowest);
+    slowest.into_iter().chain(another).collect()
 }
 
 /// Nanoseconds a call.
