@@ -22,6 +22,12 @@ pub const FINDS: &[Find] = &[
         ("nested", [0, 3, 0, 0, 2, 0, 0, 1]),
         ("nested", [1, 3, 0, 0, 2, 0, 0, 1]),
     ),
+    // nearest without a walk, as ordinary Rust has it
+    find(
+        "fans, far cells",
+        ("fans", [0, 1, 0, 0, 0, 0, 0, 0]),
+        ("fans", [1, 1, 0, 0, 0, 0, 0, 0]),
+    ),
     // section, split and the joins
     find(
         "nested boxes of the whole range, far cells",

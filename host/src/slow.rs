@@ -16,6 +16,8 @@ use std::time::{Duration, Instant};
 pub const SECONDS: u64 = 120;
 /// The seed of what is tried.
 const SEED: u64 = 0x736C_6F77;
+/// The maps whose answers differ that are written out.
+const SHOWN: usize = 5;
 /// The function that has no map.
 const WITHOUT_MAP: &str = "travelmap_box";
 
@@ -268,7 +270,7 @@ pub fn slow(seconds: u64, names: &[String]) -> bool {
     }
     let head = "| function | slowest at | ns | power | times the check | worst ratio | at |";
     println!("{}", table(head, rows.into_iter()));
-    for wrong in &wrong {
+    for wrong in wrong.iter().take(SHOWN) {
         eprintln!("answers differ: {wrong}");
     }
     wrong.is_empty()
