@@ -109,7 +109,7 @@ pub fn judge(input: &[u8]) -> (u8, String) {
 /// The answer line of a wish.
 fn answer_line(known: &Known, wish: [i16; 3]) -> String {
     let packed = nearest::judge(known, wish);
-    format!("05{:02X}{:012X}\n", packed >> 48, packed & 0xFFFF_FFFF_FFFF)
+    format!("05{:02X}{:012X}\n", packed >> 56, packed & 0xFFFF_FFFF_FFFF)
 }
 
 /// Compares a program with the judge's: bytes in, bytes out. The judge itself is held to what the kind of input says.

@@ -26,7 +26,7 @@ thread_local! {
 #[inline(never)]
 pub fn nearest(list: &[i16], wish: [i16; 3]) -> u64 {
     match best(list, wish) {
-        Err(refusal) => refusal >> 56 << 48,
+        Err(refusal) => refusal,
         Ok((_, cell)) => {
             let [x, y, z] = cell.map(|n| u64::from(n as u16));
             x << 32 | y << 16 | z
