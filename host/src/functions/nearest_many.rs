@@ -3,27 +3,30 @@
 use super::nearest::cell;
 use crate::cases::Case;
 use crate::compare::{answers, Lent, Run};
-use crate::judge::{number, put, Answer, Known, BAD_NUMBER, EMPTY, NO_ROOM};
+use crate::judge::{number, put, Answer, Known, EMPTY, NOT_THREES, NO_ROOM};
 use crate::rng::Rng;
 use crate::table::Table;
 use crate::{damage, make, plain};
 
 /// The numbers that the function can answer.
-pub const NUMBERS: &[u8] = &[0, 1, 2, 3, 4, 5, 6, 7, 9];
+pub const NUMBERS: &[u8] = &[0, 1, 2, 3, 4, 5, 6, 7];
 /// The calls that are made with one list.
 const CALLS: usize = 4;
 /// The most wishes of a call that is compared.
 const MOST_WISHES: usize = 12;
 
-/// The cells, three codes each, or the refusal of what is asked. In order: wishes that do not come in threes, the check's
-/// refusals, the empty list. No wish at all is no exception.
+/// The cells, three codes each, or the refusal of what is asked. In order: the check's refusals, wishes that do not come in
+/// threes, as a second list, the empty list. No wish at all is no exception.
 fn cells(known: &Known, wishes: &[i16]) -> Result<Vec<i16>, Answer> {
-    let (wishes, []) = wishes.as_chunks::<3>() else {
-        return Err(Answer::refused(BAD_NUMBER));
-    };
     if !known.valid() {
         return Err(known.verdict);
     }
+    let (wishes, []) = wishes.as_chunks::<3>() else {
+        return Err(Answer {
+            operand: 2,
+            ..Answer::refused(NOT_THREES)
+        });
+    };
     if known.vertices.is_empty() {
         return Err(Answer::refused(EMPTY));
     }
@@ -36,18 +39,14 @@ fn cells(known: &Known, wishes: &[i16]) -> Result<Vec<i16>, Answer> {
         .collect())
 }
 
-/// The answer due, and the result: how many cells there are.
+/// The answer due, and the result.
 pub fn judge(known: &Known, wishes: &[i16], result: &mut [i16]) -> u64 {
     match cells(known, wishes) {
         Err(refusal) => refusal.packed(),
         Ok(cells) if cells.len() > result.len() => Answer::refused(NO_ROOM).packed(),
         Ok(cells) => {
             put(&cells, result);
-            Answer {
-                count: (cells.len() / 3) as u16,
-                ..Answer::default()
-            }
-            .packed()
+            Answer::default().packed()
         }
     }
 }

@@ -43,20 +43,24 @@ pub fn nearest_distance(list: &[i16], wish: [i16; 3]) -> u64 {
 /// The nearest permitted cells to many wishes.
 #[inline(never)]
 pub fn nearest_many(list: &[i16], wishes: &[i16], result: &mut [i16]) -> u64 {
+    let refused = verdict(list, 1);
+    if refused != 0 {
+        return refused;
+    }
     let (wishes, []) = wishes.as_chunks::<3>() else {
-        return refusal(9, 0, 0);
+        return refusal(1, 2, 0);
     };
-    let ready = match Ready::checked(list) {
-        Err(refusal) => return refusal,
-        Ok(ready) => ready,
-    };
+    if list.is_empty() {
+        return refusal(7, 0, 0);
+    }
+    let ready = Ready::new(vertices(list));
     if 3 * wishes.len() > result.len() {
         return refusal(6, 0, 0);
     }
     for (to, wish) in result.as_chunks_mut().0.iter_mut().zip(wishes) {
         (_, *to) = ready.best(*wish);
     }
-    wishes.len() as u64
+    0
 }
 
 /// The nearest cell with its distance, or the refusal.

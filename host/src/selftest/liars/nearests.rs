@@ -87,10 +87,10 @@ const MANY: [(&str, ManyLie); 7] = [
         },
     ),
     (
-        "the list before the wishes",
-        |list, wishes, result| match known(list) {
-            wrong if !wrong.valid() => wrong.verdict.packed(),
-            right => nearest_many::judge(&right, wishes, result),
+        "the wishes before the list",
+        |list, wishes, result| match wishes.len().is_multiple_of(3) {
+            false => 1 << 56 | 2 << 48,
+            true => nearest_many::judge(&known(list), wishes, result),
         },
     ),
     ("the room before the list", |list, wishes, result| {
@@ -122,7 +122,7 @@ const MANY: [(&str, ManyLie); 7] = [
     ),
     ("the first wish's cell for all", |list, wishes, result| {
         let answer = nearest_many::judge(&known(list), wishes, result);
-        let cells = 3 * (answer & 0xFFFF) as usize;
+        let cells = if answer == 0 { wishes.len() } else { 0 };
         (3..cells).for_each(|at| result[at] = result[at - 3]);
         answer
     }),
