@@ -1,14 +1,18 @@
 //! The maps that are timed: of several shapes and sizes, each valid and refused, with numbers to ask, wishes, and for
-//! each another map to be joined with it.
+//! each another map to be joined with it; and the slow maps that were found.
 
+use crate::families::{self, recipe, Recipe, KNOBS};
+use crate::finds;
 use crate::functions::program::MOST_WISHES;
 use crate::make::{lump_of, slabs};
 use crate::make_text;
-use crate::map::{list, permits, Cell, Corner, Grid, Paint, AXES};
+use crate::map::{list, permits, Cell, Corner, Grid, Paint, AXES, MOST_VERTICES};
 use crate::rng::Rng;
 
 /// Vertices of the maps that are timed.
-const SIZES: [usize; 4] = [8, 64, 256, 1024];
+pub const SIZES: [usize; 4] = [8, 64, 256, MOST_VERTICES];
+/// Vertices of the slow maps that are timed: growth is seen between the last two.
+pub const SLOW_SIZES: [usize; 3] = [64, 256, MOST_VERTICES];
 /// Numbers that are asked of a map in turn.
 pub const ASKED: usize = 16;
 /// The seed of the maps.
@@ -25,18 +29,28 @@ pub enum Wish {
     Far,
 }
 
+/// All places of a wish, in words.
+const PLACES: [(&str, Wish); 3] = [
+    ("inside", Wish::Inside),
+    ("near", Wish::Near),
+    ("far", Wish::Far),
+];
+
 /// A map to be timed.
 #[derive(Clone)]
 pub struct Case {
     pub name: String,
     pub vertices: usize,
-    refused: bool,
+    pub refused: bool,
     /// The list.
     pub list: Vec<i16>,
     /// A map to be joined with it.
     pub other: Vec<i16>,
     asked: Vec<[i16; 3]>,
-    wishes: [Vec<[i16; 3]>; 3],
+    /// Wishes, by where they lie.
+    pub wishes: Vec<(&'static str, Vec<[i16; 3]>)>,
+    /// What is asked of a slow map, in words; the slowest is looked for. Of other maps all is asked in turn.
+    pub points: Vec<String>,
 }
 
 impl Case {
@@ -49,25 +63,38 @@ impl Case {
             list: Vec::new(),
             other: Vec::new(),
             asked: Vec::new(),
-            wishes: Default::default(),
+            wishes: Vec::new(),
+            points: Vec::new(),
         }
     }
 
     /// The numbers that are asked in this turn.
     pub fn asked(&self, turn: usize) -> [i16; 3] {
-        self.asked[turn % ASKED]
+        self.asked[turn % self.asked.len()]
     }
 
-    /// The wish of this turn.
-    pub fn wish(&self, place: Wish, turn: usize) -> [i16; 3] {
-        self.wishes[place as usize][turn % ASKED]
+    /// Inputs of the program with this map and as many wishes as there may be: of a slow map one for each wish, that wish
+    /// and no other; else one, with wishes of every place.
+    pub fn inputs(&self) -> Vec<Vec<u8>> {
+        let input = |wish: &dyn Fn(usize) -> [i16; 3]| {
+            make_text::text(&self.list, (0..MOST_WISHES).map(wish).collect()).concat()
+        };
+        match self.points.len() {
+            0 => vec![input(&|turn| {
+                let (_, wishes) = &self.wishes[turn % self.wishes.len()];
+                wishes[turn % wishes.len()]
+            })],
+            _ => self.asked.iter().map(|wish| input(&|_| *wish)).collect(),
+        }
     }
 
-    /// The input of the program with this map and as many wishes as there may be, some of each place.
-    pub fn input(&self) -> Vec<u8> {
-        let places = [Wish::Inside, Wish::Near, Wish::Far];
-        let wishes = (0..MOST_WISHES).map(|turn| self.wish(places[turn % 3], turn));
-        make_text::text(&self.list, wishes.collect()).concat()
+    /// Wishes as slices of many, three numbers each: of a slow map one for each wish, that wish and no other; else one of
+    /// all.
+    pub fn slices(&self, wishes: &[[i16; 3]]) -> Vec<Vec<i16>> {
+        match self.points.len() {
+            0 => vec![wishes.concat()],
+            _ => wishes.iter().map(|wish| wish.repeat(ASKED)).collect(),
+        }
     }
 
     /// The case of two maps; codes between those of the first map's vertices are asked.
@@ -75,14 +102,31 @@ impl Case {
         let asked = (0..ASKED)
             .map(|_| [0, 1, 2].map(|axis| one[rng.below(one.len())].0[axis].min(511) as i16));
         let asked = asked.collect();
-        let places = [Wish::Inside, Wish::Near, Wish::Far];
+        let mut wishes = |place| (0..ASKED).map(|_| wish(rng, &one, place)).collect();
         Case {
             asked,
-            wishes: places.map(|place| (0..ASKED).map(|_| wish(rng, &one, place)).collect()),
+            wishes: PLACES.map(|(word, place)| (word, wishes(place))).into(),
             list: list(&one),
             other: list(&other),
             ..Case::named(name, one.len())
         }
+    }
+
+    /// The case of two maps that may be slow; nothing where the first of them is empty.
+    pub fn slow(name: &str, maps: [Recipe; 2], vertices: usize) -> Option<Case> {
+        let [one, other] = maps.map(|recipe| recipe.map(vertices));
+        if one.is_empty() {
+            return None;
+        }
+        let (points, asked): (_, Vec<_>) = families::points(&one).into_iter().unzip();
+        Some(Case {
+            points,
+            wishes: vec![("slow", asked.clone())],
+            asked,
+            list: list(&one),
+            other: list(&other),
+            ..Case::named(name, one.len())
+        })
     }
 
     /// The same map without its last two vertices: the lines that they lay on are odd, but for one.
@@ -142,7 +186,7 @@ fn run(low: i32, stretches: usize) -> Vec<i32> {
 
 /// Slabs across an axis, each one code thick, one code apart.
 fn combs(count: usize, axis: usize) -> Vec<Corner> {
-    let long = run(-200, 2 * count - 1);
+    let long = run(-(count as i32), 2 * count - 1);
     match axis {
         0 => slabs([long, vec![-200, 200], vec![0, 1]], 0).list(),
         _ => slabs([vec![-200, 200], long, vec![0, 1]], 1).list(),
@@ -166,58 +210,15 @@ fn shells(low: i32, count: i32) -> Vec<Corner> {
     nested((0..count).map(|at| [low + at, low + 2 * count - 1 - at]))
 }
 
+/// So many shells that are three codes apart fit into the range.
+const MOST_APART: i32 = 256;
+
 /// Nested shells one code thick, three codes apart; `gap` is 0 or 2, and the two do not touch each other.
 fn shells_apart(gap: i32, count: i32) -> Vec<Corner> {
     nested((0..count).map(|at| {
         let depth = 4 * (at / 2) + at % 2 + gap;
         [-512 + depth, 511 - depth]
     }))
-}
-
-/// The number by which the library spreads lines over its table, and the slots of that table.
-const SPREAD: u64 = 3_266_489_909;
-const SLOTS: u64 = 2_048;
-
-/// The slot at which the library's search for a line of the focus begins.
-fn slot(first: i32, second: i32) -> u64 {
-    let key = (first + 512) as u64 * 2_048 + (second + 512) as u64;
-    (key * SPREAD % (1 << 32) * SLOTS) >> 32
-}
-
-/// The step along the first or the second shift that moves a line least in the table.
-fn least_step(of: impl Fn(i32) -> u64) -> i32 {
-    let moved = |step: &i32| of(*step).min(SLOTS - of(*step));
-    (1..512).min_by_key(moved).unwrap_or(1)
-}
-
-/// Boxes behind each other whose lines along the focus crowd one part of the library's table of lines, so that the
-/// search there gives up: the slow case of the check.
-fn crowded(count: usize) -> Vec<Corner> {
-    let window = 2 * count as u64;
-    let zero = slot(-512, -512);
-    let steps = [
-        least_step(|step| slot(-512 + step, -512).wrapping_sub(zero) % SLOTS),
-        least_step(|step| slot(-512, -512 + step).wrapping_sub(zero) % SLOTS),
-    ];
-    let mut taken = std::collections::HashSet::new();
-    let mut found = Vec::new();
-    let mut at = -512;
-    for (first, second) in (-512..=512 - steps[0])
-        .flat_map(|first| (-512..=512 - steps[1]).map(move |second| (first, second)))
-    {
-        let ends = [[first, first + steps[0]], [second, second + steps[1]]];
-        let lines: Vec<[i32; 2]> = (0..4).map(|i| [ends[0][i >> 1], ends[1][i & 1]]).collect();
-        let good = |l: &[i32; 2]| slot(l[0], l[1]) < window && !taken.contains(l);
-        if found.len() == 8 * count || !lines.iter().all(good) {
-            continue;
-        }
-        for focus in [at, at + 1] {
-            found.extend(lines.iter().map(|l| Corner([focus, l[0], l[1]])));
-        }
-        taken.extend(lines);
-        at += 3;
-    }
-    found
 }
 
 /// Two maps of each shape with so many vertices.
@@ -232,7 +233,7 @@ fn shapes(rng: &mut Rng, vertices: usize) -> Vec<Case> {
     if count > 1 {
         let two_combs = [combs(count, 0), combs(count, 1)];
         cases.push(Case::of("slabs", two_combs, rng));
-        let two_shells = [-150, -149].map(|low| shells(low, count as i32));
+        let two_shells = [0, 1].map(|up| shells(up - count as i32, count as i32));
         cases.push(Case::of("nested shells", two_shells, rng));
     }
     cases
@@ -245,8 +246,8 @@ fn pairs(rng: &mut Rng, vertices: usize) -> Vec<Case> {
     if count < 2 {
         return Vec::new();
     }
-    let same = shells(-150, count);
-    let apart = [0, 2].map(|gap| shells_apart(gap, count));
+    let same = shells(-count, count);
+    let apart = [0, 2].map(|gap| shells_apart(gap, count.min(MOST_APART)));
     vec![
         Case::of("nested shells, twice the same", [same.clone(), same], rng),
         Case::of("shells in the gaps of shells", apart, rng),
@@ -268,8 +269,8 @@ fn cases() -> Vec<Case> {
 /// The slow cases of the check, valid and refused.
 fn slow_checks() -> Vec<Case> {
     let mut rng = Rng::new(SEED);
-    let valid = [256, 1024].map(|vertices| {
-        let map = crowded(vertices / 8);
+    let valid = SLOW_SIZES.map(|vertices| {
+        let map = recipe("crowded", [0; KNOBS]).map(vertices);
         Case::of("crowded", [map.clone(), map], &mut rng)
     });
     let with_refused = |case: Case| [case.clone(), case.odd()];
@@ -301,6 +302,12 @@ fn full(cases: &[Case]) -> Vec<Case> {
     cases.iter().filter(kept).cloned().collect()
 }
 
+/// The slow maps that were found.
+fn slow_maps() -> Vec<Case> {
+    let sizes = |find| SLOW_SIZES.map(|vertices| finds::case(find, vertices));
+    finds::FINDS.iter().flat_map(sizes).flatten().collect()
+}
+
 /// The cases of each function, by its name.
 pub struct Cases {
     check: Vec<Case>,
@@ -312,6 +319,17 @@ pub struct Cases {
 impl Cases {
     /// All cases.
     pub fn new() -> Cases {
+        let mut cases = Cases::ordinary();
+        let slow = slow_maps();
+        cases.check.extend_from_slice(&slow);
+        cases.join.extend_from_slice(&slow);
+        cases.others.extend_from_slice(&slow);
+        cases.program.extend(slow);
+        cases
+    }
+
+    /// All cases but the slow maps that were found.
+    pub fn ordinary() -> Cases {
         let all = cases();
         Cases {
             join: for_joins(&all),

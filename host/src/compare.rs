@@ -1,7 +1,7 @@
 //! Comparing: a run of calls of one function, the slices that are lent to it, what is written of a difference, and
 //! the report over all functions.
 
-use crate::functions::{Function, FUNCTIONS};
+use crate::functions::{chosen, Function};
 use crate::judge;
 use crate::rng::Rng;
 use std::collections::BTreeMap;
@@ -225,10 +225,7 @@ fn compare_one(function: &Function, calls: u64) -> Option<u64> {
 
 /// Compares every function, or those that are named, and writes the last line. Is all as it should be?
 pub fn compare(calls: u64, names: &[String]) -> bool {
-    let chosen: Vec<&Function> = FUNCTIONS
-        .iter()
-        .filter(|f| names.is_empty() || names.iter().any(|n| f.name.ends_with(n.as_str())))
-        .collect();
+    let chosen = chosen(names);
     let good: Vec<String> = chosen
         .iter()
         .filter_map(|f| Some(format!("{} {}", f.name, compare_one(f, calls)?)))

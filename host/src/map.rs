@@ -12,6 +12,8 @@ pub const HIGHEST: i32 = 512;
 pub const MOST_VERTICES: usize = 1024;
 /// Numbers a vertex.
 pub const AXES: usize = 3;
+/// What a step counts on each axis where distances are measured.
+const WEIGHTS: [u32; AXES] = [1, 1, 1];
 
 /// Three numbers where cells meet. The order is that of a list.
 #[derive(Clone, Copy, Debug, PartialEq, Eq, PartialOrd, Ord)]
@@ -46,7 +48,7 @@ pub fn permits(vertices: &[Corner], cell: Cell) -> bool {
 /// The distance from a wish to a cell.
 pub fn distance(wish: [i32; AXES], cell: Cell) -> u32 {
     (0..AXES)
-        .map(|axis| wish[axis].abs_diff(cell.0[axis]))
+        .map(|axis| WEIGHTS[axis] * wish[axis].abs_diff(cell.0[axis]))
         .sum()
 }
 

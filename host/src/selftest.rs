@@ -107,6 +107,31 @@ fn honest(test: &mut Test) {
     test.passes("distance", nearest_distance::NUMBERS, |run| {
         nearest_distance::compare(plain::nearest_distance, run)
     });
+    test.passes("nearest many", nearest_many::NUMBERS, |run| {
+        nearest_many::compare(plain::nearest_many, run)
+    });
+    test.passes("nearest by a tree", nearest::NUMBERS, |run| {
+        nearest::compare(by_tree, run)
+    });
+}
+
+/// Nearest by an r-tree, which is kept for the next wish to the same list.
+fn by_tree(list: &[i16], wish: [i16; 3]) -> u64 {
+    thread_local! {
+        static KEPT: RefCell<Option<(Vec<i16>, plain::Tree)>> = const { RefCell::new(None) };
+    }
+    if list.is_empty() || plain::check(list) != 0 {
+        return plain::nearest(list, wish);
+    }
+    KEPT.with_borrow_mut(|kept| {
+        let tree = match kept.take() {
+            Some((same, tree)) if same == list => tree,
+            _ => plain::Tree::new(list),
+        };
+        let [x, y, z] = tree.best(wish).1.map(|n| u64::from(n as u16));
+        *kept = Some((list.to_vec(), tree));
+        x << 32 | y << 16 | z
+    })
 }
 
 /// A comparison in parts makes all calls, with other inputs in each part, and loses no difference.

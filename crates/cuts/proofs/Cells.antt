@@ -1,5 +1,4 @@
 -- Section and split, cell by cell: what stands in results that a promise calls done.
---   asked-done, checked-done                 done: the axis and the number are good, and the list passed the check
 --   halves-stand                             the lists of the two halves stand at the fronts of the results
 --   section-asked, split-asked               what is done was asked of an axis, a number in range and a travel map
 --   section-squares, section-count           of a section that is done with n pairs: the first 2n numbers, square by square; they are n pairs
@@ -9,7 +8,7 @@
 use mathlib.Core.Path.{_≡_, refl, sym, _∙_, ap, subst}
 use mathlib.Core.Bool.{Bool, true, false}
 use mathlib.Core.List.{List}
-use mathlib.Core.Option.{Option, none, some}
+use mathlib.Core.Option.{some}
 use Prim.Native.Nat.{ℕ, _*_}
 use native.Mathlib.Omega.{arith}
 use lib.IntN.{ℤ}
@@ -20,35 +19,16 @@ use Rattle.meaning.specs.Verdicts.{verdict, passes}
 use Rattle.meaning.specs.OneList.{onePairs, WithinCodes}
 use Rattle.meaning.specs.Made.{MapOf, pairs, PairsOf}
 use Rattle.meaning.specs.Operations.{axisOf, sectionAt, lowerHalf, upperHalf, pairNumbers}
-use Rattle.meaning.specs.Outcomes.{Outcome, outcome, Nothing, nothing, done, doneBoth, badNumber, kept, checked, perVertex, perPair, fits, placed}
-use Rattle.meaning.specs.declared.Verdict.{Verdict}
-use Rattle.meaning.specs.declared.Verdict.the-variants.{Valid as Passed, NotTriples, TooMany, OutOfRange, NotRising, OddLine}
-use Rattle.meaning.proofs.Outcomes.{checked-next}
+use Rattle.meaning.specs.Outcomes.{outcome, nothing, done, doneBoth, perVertex, perPair, fits, placed}
 use Rattle.meaning.proofs.Made.{length-pairs, Stands, placed-stands, read-front, pairs-back, front-map, front-count, one-squares}
 use Rattle.meaning.proofs.Checked.{passes-valid}
 use Rattle.meaning.proofs.Maps.{valid-within}
 use Rattle.meaning.proofs.Making.{section-within, lower-within, upper-within}
 use Rattle.cuts.specs.declared.Sectioned.the-variants as section
 use Rattle.cuts.specs.declared.Halved.the-variants as split
-use Rattle.cuts.specs.Answers.{asked, sectionPairs, SectionPromise, halves, lowerList, upperList, placedHalves, SplitPromise}
+use Rattle.cuts.specs.Answers.{sectionPairs, SectionPromise, halves, lowerList, upperList, placedHalves, SplitPromise}
+use Rattle.cuts.proofs.Promises.{outcome-done}
 use Rattle.cuts.proofs.Cuts.{low-short, high-short, both-fit}
-
--- ---- what is done was not refused
-
-module _ {Left : Type 0} (left : Left) where
-  asked-done : (axis : Option Axis) (b : Bool) (next : Axis → Outcome Nothing Left) → asked axis b (kept nothing left badNumber) next .values .number ≡ 0 →
-      (a : Axis) × (axis ≡ some a) × (b ≡ true) × (asked axis b (kept nothing left badNumber) next ≡ next a)
-  asked-done none b next e = absurd (omega arith)
-  asked-done (some a) true next e = (a, refl, refl, refl)
-  asked-done (some a) false next e = absurd (omega arith)
-
-  checked-done : (v : Verdict) (next : Outcome Nothing Left) → checked 1 v (kept nothing left) next .values .number ≡ 0 → passes v ≡ true
-  checked-done Passed next e = refl
-  checked-done NotTriples next e = absurd (omega arith)
-  checked-done TooMany next e = absurd (omega arith)
-  checked-done (OutOfRange i) next e = absurd (omega arith)
-  checked-done (NotRising i) next e = absurd (omega arith)
-  checked-done (OddLine i) next e = absurd (omega arith)
 
 opened : {a b : Axis} → some a ≡ some b → a ≡ b
 opened e = cc
@@ -78,15 +58,10 @@ module _ (ns : List ℤ) (which : ℕ) (k : ℤ) (before : List ℤ) (n : ℕ) (
       Stands perPair pairNumbers (sectionPairs axis k ns) before n after
   unfolding SectionPromise
   section-done =
-      let (axis, is, code, at) = asked-done before (axisOf which) (isCode k) _ (ap (λ o. o .values .number) (sym made)) in
-      let result = placed perPair pairNumbers (sectionPairs axis k ns) before in
-      let passed = checked-done before (verdict ns) result (ap (λ o. o .values .number) (sym at ∙ sym made)) in (
-        axis,
-        is,
-        code,
-        passed,
-        placed-stands perPair pairNumbers (sectionPairs axis k ns) before n after (made ∙ at ∙ checked-next 1 (verdict ns) (kept nothing before) result passed),
-      )
+      let (axis, is, code, passed, at) =
+      outcome-done ns which (isCode k) before (λ axis. placed perPair pairNumbers (sectionPairs axis k ns) before)
+      (ap (λ o. o .values .number) (sym made)) in
+      (axis, is, code, passed, placed-stands perPair pairNumbers (sectionPairs axis k ns) before n after (made ∙ at))
 
   pub section-asked : (axis : Axis) × (axisOf which ≡ some axis) × (isCode k ≡ true) × Valid (vertices ns)
   section-asked = let (axis, is, code, passed, _) = section-done in (axis, is, code, passes-valid ns passed)
@@ -120,16 +95,10 @@ module _ (ns : List ℤ) (which : ℕ) (p : ℤ) (low high : List ℤ) (m n : �
       (Stands perVertex numbers (lowerList axis p ns) low m low′ × Stands perVertex numbers (upperList axis p ns) high n high′)
   unfolding SplitPromise
   split-done =
-      let (axis, is, good, at) = asked-done (halves low high) (axisOf which) (isNumber p) _ (ap (λ o. o .values .number) (sym made)) in
-      let result = placedHalves (lowerList axis p ns) (upperList axis p ns) low high in
-      let passed = checked-done (halves low high) (verdict ns) result (ap (λ o. o .values .number) (sym at ∙ sym made)) in (
-        axis,
-        is,
-        good,
-        passed,
-        halves-stand (lowerList axis p ns) (upperList axis p ns) low high m n low′ high′
-            (made ∙ at ∙ checked-next 1 (verdict ns) (kept nothing (halves low high)) result passed),
-      )
+      let (axis, is, good, passed, at) =
+      outcome-done ns which (isNumber p) (halves low high) (λ axis. placedHalves (lowerList axis p ns) (upperList axis p ns) low high)
+      (ap (λ o. o .values .number) (sym made)) in
+      (axis, is, good, passed, halves-stand (lowerList axis p ns) (upperList axis p ns) low high m n low′ high′ (made ∙ at))
 
   pub split-asked : (axis : Axis) × (axisOf which ≡ some axis) × (isNumber p ≡ true) × Valid (vertices ns)
   split-asked = let (axis, is, good, passed, _) = split-done in (axis, is, good, passes-valid ns passed)

@@ -2,21 +2,19 @@
 --   range-low, range-high                   what is asked is in range, after the crossing
 --   number-back                             the steps of a number give it back
 --   outcome-bad, outcome-refused, outcome-next     the order of refusals: a bad axis or number; then the check's; then what follows
---   refused-not                             a verdict whose case is none of the first does not pass
+--   outcome-done                            what is done was asked of an axis and a number in range, and of a list that passed the check
 --   section-bad, section-refused, section-made     the cases of section
 --   split-bad, split-refused, split-made           the cases of split
 --   section-once, split-once                the values tell the answers apart
 --   section-settled, split-settled          two outcomes that a promise allows are equal, answer and contents
 -- Assumes nothing.
 use mathlib.Core.Path.{_≡_, refl, sym, _∙_, ap, ap₂}
-use mathlib.Core.Logic.{inl, inr}
 use mathlib.Core.Bool.{Bool, true, false, _&&_, cond, false≢true}
 use mathlib.Core.List.{List, [], _∷_}
-use mathlib.Core.Option.{none}
+use mathlib.Core.Option.{Option, none, some}
 use Prim.Native.Nat.{ℕ, zero, suc, _-_, _≤_}
 use native.Mathlib.Omega.{arith}
 use borrow.Author.Tests.{le-leb, lt-leb, leb-true, ne-eqb}
-use types.Run.{OneOf}
 use lib.Dec.{leb, eqb}
 use lib.IntN.{ℤ}
 use Rattle.meaning.specs.Numbers.{Axis, focus, first, second, number, steps, isCode, isNumber}
@@ -80,6 +78,22 @@ module _ {A : Type 0} (b : Bool) (bad : A) (next : Axis → A) where
   asked-next (suc (suc zero)) e = ap (λ c. cond c (next second) bad) e
   asked-next (suc (suc (suc n))) e = absurd (false≢true (sym (ap (_&& b) (lt-leb (suc (suc (suc n))) 2 (omega arith))) ∙ e))
 
+-- what is done was not refused
+module _ {Left : Type 0} (left : Left) where
+  asked-done : (axis : Option Axis) (b : Bool) (next : Axis → Outcome Nothing Left) → asked axis b (kept nothing left badNumber) next .values .number ≡ 0 →
+      (a : Axis) × (axis ≡ some a) × (b ≡ true) × (asked axis b (kept nothing left badNumber) next ≡ next a)
+  asked-done none b next e = absurd (omega arith)
+  asked-done (some a) true next e = (a, refl, refl, refl)
+  asked-done (some a) false next e = absurd (omega arith)
+
+  checked-done : (v : Verdict) (next : Outcome Nothing Left) → checked 1 v (kept nothing left) next .values .number ≡ 0 → passes v ≡ true
+  checked-done Passed next e = refl
+  checked-done NotTriples next e = absurd (omega arith)
+  checked-done TooMany next e = absurd (omega arith)
+  checked-done (OutOfRange i) next e = absurd (omega arith)
+  checked-done (NotRising i) next e = absurd (omega arith)
+  checked-done (OddLine i) next e = absurd (omega arith)
+
 -- both outcomes go by this order; b says that the number that is asked is in range, and left is what the results hold
 module _ {Left : Type 0} (ns : List ℤ) (n : ℕ) (b : Bool) (left : Left) (next : Axis → Outcome Nothing Left) where
   abbrev pub inOrder : Outcome Nothing Left
@@ -95,21 +109,13 @@ module _ {Left : Type 0} (ns : List ℤ) (n : ℕ) (b : Bool) (left : Left) (nex
     pub outcome-next : passes (verdict ns) ≡ true → inOrder ≡ next (axisAt n)
     outcome-next h = asked-next _ _ _ n good ∙ checked-next 1 (verdict ns) (kept nothing left) (next (axisAt n)) h
 
--- a verdict whose case is none of the first does not pass
-pub refused-not : (v : Verdict) → OneOf (1 ∷ 2 ∷ 3 ∷ 4 ∷ 5 ∷ []) (denote.Enum.Declared.tagOf Rattle.meaning.proofs.Verdict.the-type v) → passes v ≡ false
-refused-not Passed h = absurd (never h)
-  where
-    never : OneOf (1 ∷ 2 ∷ 3 ∷ 4 ∷ 5 ∷ []) 0 → ⊥
-    never (inl e) = omega arith
-    never (inr (inl e)) = omega arith
-    never (inr (inr (inl e))) = omega arith
-    never (inr (inr (inr (inl e)))) = omega arith
-    never (inr (inr (inr (inr e)))) = omega arith
-refused-not NotTriples h = refl
-refused-not TooMany h = refl
-refused-not (OutOfRange i) h = refl
-refused-not (NotRising i) h = refl
-refused-not (OddLine i) h = refl
+  -- done: the axis and the number are good, and the list passed the check
+  pub outcome-done : inOrder .values .number ≡ 0 →
+      (axis : Axis) × (axisOf n ≡ some axis) × (b ≡ true) × (passes (verdict ns) ≡ true) × (inOrder ≡ next axis)
+  outcome-done e =
+      let (axis, is, good, at) = asked-done left (axisOf n) b _ e in
+      let passed = checked-done left (verdict ns) (next axis) (ap (λ o. o .values .number) (sym at) ∙ e) in
+      (axis, is, good, passed, at ∙ checked-next 1 (verdict ns) (kept nothing left) (next axis) passed)
 
 -- ---- the promise of section, case by case
 

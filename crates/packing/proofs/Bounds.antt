@@ -14,9 +14,9 @@ use lib.Dec.{ltb, leb, eqb}
 use lib.IntN.{ℤ}
 use lib.ListN.{length}
 use Rattle.meaning.specs.Numbers.{Axis, Cell, Corner, isCode, isNumber}
-use Rattle.meaning.specs.Counting.{first}
-use Rattle.meaning.specs.Lists.{vertices, numbers, permitted, surrounding, weigh, mask, howMany, mostVertices}
-use Rattle.meaning.specs.Kinds.{kind, kindBy}
+use Rattle.meaning.specs.Counting.{count, first}
+use Rattle.meaning.specs.Lists.{vertices, numbers, permitted, cellBy, surrounding, weigh, mask, howMany, mostVertices}
+use Rattle.meaning.specs.Kinds.{kind, kindBy, halfEdges, isManifold, isNonManifold}
 use Rattle.meaning.specs.Verdicts.{outsideAt, fallsAt, onOddLineAt, unlessAt, verdictOf, verdict, passes, refusalNumber, refusalPlace}
 use Rattle.meaning.specs.Operations.{Operation, operation, joinedList, axisOf, pairNumbers}
 use Rattle.meaning.specs.Outcomes.{Values, Outcome, outcome, Nothing, nothing, done, refused, refusal, verdictValues, badNumber, badOperation, noRoom, noRoomFor, emptyMap, kept, named, checked, perVertex, perPair, fits, placed}
@@ -201,4 +201,9 @@ kind-few two non =
 
 pub report-few : (S : Cell → Bool) (v : Corner) → (mask S v < 2 ^ 8) × (howMany S v < 2 ^ 8) × (kind (mask S v) < 2 ^ 8)
 unfolding kind
-report-few S v = (eight-bits _ _ _ _ _ _ _ _, omega (arith, count-le S (surrounding v)), kind-few _ _)
+report-few S v = (
+  eight-bits (S (cellBy v false false false)) (S (cellBy v false false true)) (S (cellBy v false true false)) (S (cellBy v false true true))
+      (S (cellBy v true false false)) (S (cellBy v true false true)) (S (cellBy v true true false)) (S (cellBy v true true true)),
+  omega (arith, count-le S (surrounding v)),
+  kind-few (count isManifold (halfEdges (mask S v))) (count isNonManifold (halfEdges (mask S v))),
+)

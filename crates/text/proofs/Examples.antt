@@ -10,7 +10,7 @@ use Rattle.meaning.specs.Lists.{mostVertices}
 use Rattle.meaning.specs.Verdicts.{verdict}
 use Rattle.frames.specs.Frames.{digit0, fourAt, lineAt, twoDigits, fourDigits, lineEnd}
 use Rattle.reading.specs.Reading.{mapText, wishText, mostWishes}
-use Rattle.text.specs.Program.{mostBytes, refusal, answers, outcome}
+use Rattle.text.specs.Program.{mostBytes, refusal, answers, response}
 
 digits : List ℕ → List ℕ
 digits [] = lineEnd ∷ []
@@ -66,7 +66,7 @@ inputs =
     (mapOf 0 [] 0 ++ (frame 4 (0 ∷ 0 ∷ 0 ∷ []) ++ (digit0 ∷ []))) ∷
     []
 
-pub comes-to : map outcome inputs ≡
+pub comes-to : map response inputs ≡
     (answers
     (negsuc 0 ∷ pos 0 ∷ pos 0 ∷ negsuc 0 ∷ pos 0 ∷ pos 1 ∷ negsuc 0 ∷ pos 1 ∷ pos 0 ∷ negsuc 0 ∷ pos 1 ∷ pos 1 ∷
     pos 0 ∷ pos 0 ∷ pos 0 ∷ pos 0 ∷ pos 0 ∷ pos 1 ∷ pos 0 ∷ pos 1 ∷ pos 0 ∷ pos 0 ∷ pos 1 ∷ pos 1 ∷ [])
@@ -85,5 +85,5 @@ pub comes-to : map outcome inputs ≡
     answers [] (pos 0 ∷ pos 0 ∷ pos 0 ∷ []) ∷
     refusal 10 4 ∷
     [])
-unfolding outcome mapText wishText mostBytes mostVertices mostWishes verdict fourAt lineAt inputs
+unfolding response mapText wishText mostBytes mostVertices mostWishes verdict fourAt lineAt inputs
 comes-to = refl

@@ -16,7 +16,8 @@ use Rattle.meaning.specs.Lists.{vertices}
 use Rattle.reading.specs.Reading.{illFormed, tooLong, Text, refused, whole, mapText, wishText}
 use Rattle.reading.proofs.Places.{MapTen, map-ten, ten-map, WishTen, wish-ten, ten-wish, map-read, read-begins}
 use Rattle.answers.specs.Answers.{refusalLine}
-use Rattle.text.specs.Program.{Outcome, refusal, answers, withWishes, withMap, mostBytes, outcome, Writes, Put, Responds}
+use Rattle.meaning.specs.Outcomes.{front}
+use Rattle.text.specs.Program.{Response, refusal, answers, withWishes, withMap, mostBytes, response, Writes, Put, Responds}
 
 pub data InputTen (s : List ℕ) (p : ℕ) : Type 0 where
   in-map : MapTen s p → InputTen s p
@@ -42,8 +43,8 @@ module _ (s : List ℕ) (p : ℕ) where
   by-length true e = let z : _≡_ {A = ℕ} illFormed tooLong = cc in absurd (omega arith)
   by-length false e = by-map-text (mapText s) refl e
 
-  pub input-ten : refusal illFormed p ≡ outcome s → InputTen s p
-  unfolding outcome
+  pub input-ten : refusal illFormed p ≡ response s → InputTen s p
+  unfolding response
   input-ten e = by-length (ltb mostBytes (length s)) e
 
 module _ (s : List ℕ) (p : ℕ) (fits : length s ≤ mostBytes) where
@@ -53,10 +54,12 @@ module _ (s : List ℕ) (p : ℕ) (fits : length s ≤ mostBytes) where
   in-place (in-wishes ns e t) =
       ap (withWishes ns) (ten-wish s (length (vertices ns)) (read-begins s ns (map-read s ns e)) p t) ∙ ap (withMap s) e
 
-  pub ill-formed-first : InputTen s p → outcome s ≡ refusal illFormed p
-  unfolding outcome
+  pub ill-formed-first : InputTen s p → response s ≡ refusal illFormed p
+  unfolding response
   ill-formed-first t =
       ap (λ b. cond b (refusal tooLong 0) (withMap s (mapText s))) (le-ltb mostBytes (length s) fits) ∙ sym (in-place t)
 
-  pub ill-formed-written : InputTen s p → {before after : List ℕ} {n : ℕ} → Responds s before n after → take n after ≡ refusalLine illFormed p
-  ill-formed-written t {before} {after} {n} r = subst (λ o. Put o before n after) (ill-formed-first t) r .front
+  pub ill-formed-written : InputTen s p → {before after : List ℕ} {n : ℕ} → Responds s before n after → after ≡ front (refusalLine illFormed p) before
+  ill-formed-written t {before} {after} {n} r =
+      let put = subst (λ o. Put o before n after) (ill-formed-first t) r in
+      put .contents ∙ ap (λ l. front l before) (put .writes)

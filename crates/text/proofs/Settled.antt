@@ -6,14 +6,14 @@ use mathlib.Core.Path.{_≡_, refl, sym, _∙_, ap, ap₂}
 use mathlib.Core.List.{List, [], _∷_, _++_}
 use Prim.Native.Nat.{ℕ, zero, suc, _/_}
 use lib.IntN.{ℤ}
-use lib.ListN.{length, drop, take-append-drop}
-use lib.Seq.{length-take-le}
+use lib.ListN.{length}
 use Rattle.meaning.specs.Numbers.{Cell, Corner}
 use Rattle.meaning.specs.Lists.{vertices, permitted, mostVertices}
+use Rattle.meaning.specs.Outcomes.{front}
 use Rattle.meaning.proofs.Closest.{nearest-unique}
 use Rattle.reading.specs.Reading.{mostWishes}
 use Rattle.answers.specs.Answers.{cellLine, wishAt, AnswerLine, Answers}
-use Rattle.text.specs.Program.{mostBytes, Outcome, refusal, answers, outcome, Writes, Put, Responds}
+use Rattle.text.specs.Program.{mostBytes, Response, refusal, answers, response, Writes, Put, Responds}
 
 pub most-bytes : mostBytes ≡ 19214
 unfolding mostBytes mostVertices mostWishes
@@ -28,17 +28,14 @@ answers-settled l ws zero p q = p ∙ sym q
 answers-settled l ws (suc n) p q =
     p .is ∙ ap₂ _++_ (answers-settled l ws n (p .before) (q .before)) (line-settled l (wishAt ws n) (p .last) (q .last)) ∙ sym (q .is)
 
-pub writes-settled : (o : Outcome) {a b : List ℕ} → Writes o a → Writes o b → a ≡ b
+pub writes-settled : (o : Response) {a b : List ℕ} → Writes o a → Writes o b → a ≡ b
 writes-settled (refusal number place) p q = p ∙ sym q
 writes-settled (answers ns ws) p q = answers-settled (vertices ns) ws (length ws / 3) p q
 
-pub put-settled : (o : Outcome) (before : List ℕ) {m n : ℕ} {a b : List ℕ} → Put o before m a → Put o before n b → (m ≡ n) × (a ≡ b)
+pub put-settled : (o : Response) (before : List ℕ) {m n : ℕ} {a b : List ℕ} → Put o before m a → Put o before n b → (m ≡ n) × (a ≡ b)
 put-settled o before {m} {n} {a} {b} p q =
-    let front = writes-settled o (p .front) (q .front) in
-    let same = sym (length-take-le m a (p .within)) ∙ ap length front ∙ length-take-le n b (q .within) in (
-      same,
-      sym (take-append-drop m a) ∙ ap₂ _++_ front (p .behind ∙ ap (λ k. drop k before) same ∙ sym (q .behind)) ∙ take-append-drop n b,
-    )
+    let same = writes-settled o (p .writes) (q .writes) in
+    (p .count ∙ ap length same ∙ sym (q .count), p .contents ∙ ap (λ l. front l before) same ∙ sym (q .contents))
 
 pub responds-settled : (input before : List ℕ) {m n : ℕ} {a b : List ℕ} → Responds input before m a → Responds input before n b → (m ≡ n) × (a ≡ b)
-responds-settled input before p q = put-settled (outcome input) before p q
+responds-settled input before p q = put-settled (response input) before p q

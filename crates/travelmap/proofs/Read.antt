@@ -77,16 +77,16 @@ by-passes : {A : Type 0} (P : A → Type 0) (t : Bool) (x y : A) → P x → P y
 by-passes P true x y h k = h
 by-passes P false x y h k = k
 
-module _ {Given : Type 0} (ns : List ℤ) (no yes : Given) where
+module _ {Given : Type 0} (ns : List ℤ) (nothing-given given : Given) where
   -- what a question about one map comes to
   abbrev asking : Outcome Given Nothing
-  asking = cond (passes (verdict ns)) (outcome (done 0) yes nothing) (kept no nothing (refused 1 (verdict ns)))
+  asking = cond (passes (verdict ns)) (outcome (done 0) given nothing) (kept nothing-given nothing (refused 1 (verdict ns)))
 
   none-made : (asking .values .count ≡ 0) × (asking .values .second ≡ 0)
-  none-made = by-passes (λ o. (o .values .count ≡ 0) × (o .values .second ≡ 0)) (passes (verdict ns)) _ _ (refl, refl) (refl, refl)
+  none-made = by-passes (λ (o : Outcome Given Nothing). (o .values .count ≡ 0) × (o .values .second ≡ 0)) (passes (verdict ns)) _ _ (refl, refl) (refl, refl)
 
-  given-by : (P : Given → Type 0) → P no → P yes → P (asking .given)
-  given-by P h k = by-passes (λ o. P (o .given)) (passes (verdict ns)) _ _ k h
+  given-by : (P : Given → Type 0) → P nothing-given → P given → P (asking .given)
+  given-by P h k = by-passes (λ (o : Outcome Given Nothing). P (o .given)) (passes (verdict ns)) _ _ k h
 
 bit-few : (b : Bool) → bit b < 2
 bit-few true = omega arith
@@ -156,11 +156,11 @@ module _ (ns : List ℤ) (w c : Cell) (near : IsNearest ns w c) where
   -- what holds of each case of what nearest comes to
   nearest-cases : (P : Outcome Reached Nothing → Type 0) → (passes (verdict ns) ≡ false → P (kept nowhere nothing (refused 1 (verdict ns))))
       → P (kept nowhere nothing emptyMap) → (Fits c → P (outcome (done 0) (reached c (distance w c)) nothing)) → P (nearestOutcome ns w c)
-  nearest-cases P no empty found = by (passes (verdict ns)) refl (vertices ns) refl
+  nearest-cases P bad empty found = by (passes (verdict ns)) refl (vertices ns) refl
     where
       by : (t : Bool) → passes (verdict ns) ≡ t → (l : List Corner) → vertices ns ≡ l
           → P (cond t (nearestOf l w c) (kept nowhere nothing (refused 1 (verdict ns))))
-      by false p l q = no p
+      by false p l q = bad p
       by true p [] q = empty
       by true p (v ∷ l) q =
           let (d, m) = some-permitted v l (subst Rising q (passes-valid ns p .rising)) in
@@ -178,24 +178,24 @@ refused-number (OddLine i) e = omega arith
 refusal-read : (r : ℕ) (v : Values) → Few v → 0 < v .number → r ≡ packedValues v → ReadsNearest r v (nowhere .at)
 refusal-read r v f some e =
     let (q, _) = reads-values v f r e in
-    let no = ne-eqb (numberIn r) 0 (λ z. omega (arith, q .number, some)) in
+    let some-number = ne-eqb (numberIn r) 0 (λ z. omega (arith, q .number, some)) in
     record {
       number = q .number;
       operand = q .operand;
-      place = ap (λ t. cond t 0 (bits 16 32 r)) no ∙ q .place;
-      cell = ap (λ t. cond t (cell (signed (bits 16 32 r)) (signed (bits 16 16 r)) (signed (bits 16 0 r))) (nowhere .at)) no;
+      place = ap (λ t. cond t 0 (bits 16 32 r)) some-number ∙ q .place;
+      cell = ap (λ t. cond t (cell (signed (bits 16 32 r)) (signed (bits 16 16 r)) (signed (bits 16 0 r))) (nowhere .at)) some-number;
     }
 
 found-read : (r : ℕ) (c : Cell) → Fits c → r ≡ packedCodes c → ReadsNearest r (done 0) c
 found-read r c f e =
     let z : numberIn r ≡ 0 = ap numberIn e ∙ codes-number c f in
-    let yes = eq-eqb (numberIn r) 0 z in
+    let none = eq-eqb (numberIn r) 0 z in
     record {
       number = z;
       operand = ap (bits 8 48) e ∙ codes-operand c f;
-      place = ap (λ t. cond t 0 (bits 16 32 r)) yes;
+      place = ap (λ t. cond t 0 (bits 16 32 r)) none;
       cell =
-          ap (λ t. cond t (cell (signed (bits 16 32 r)) (signed (bits 16 16 r)) (signed (bits 16 0 r))) (nowhere .at)) yes ∙
+          ap (λ t. cond t (cell (signed (bits 16 32 r)) (signed (bits 16 16 r)) (signed (bits 16 0 r))) (nowhere .at)) none ∙
           ap (λ x. cell (signed (bits 16 32 x)) (signed (bits 16 16 x)) (signed (bits 16 0 x))) e ∙
           codes-cell c f;
     }
@@ -203,7 +203,7 @@ found-read r c f e =
 pub nearest-read : (ns : List ℤ) (w : Cell) (r : ℕ) (h : NearestPacked ns w r) → let o = nearestOutcome ns w (h .at) in
     ReadsNearest r (o .values) (o .given .at)
 nearest-read ns w r h =
-    nearest-cases ns w (h .at) (h .nearest) (λ o. r ≡ packedNearest o → ReadsNearest r (o .values) (o .given .at))
+    nearest-cases ns w (h .at) (h .nearest) (λ (o : Outcome Reached Nothing). r ≡ packedNearest o → ReadsNearest r (o .values) (o .given .at))
     (λ p e. refusal-read r (refused 1 (verdict ns)) (refused-few 1 ns (omega arith)) (refused-number (verdict ns) p) (omega arith))
     (λ e. refusal-read r emptyMap empty-few (omega arith) (omega arith))
     (λ f e. found-read r (h .at) f (omega arith))
@@ -215,7 +215,7 @@ distance-read ns w r wish h =
     let o = nearestOutcome ns w (h .at) in
     let few = nearest-few ns w (h .at) in
     let facts : (o .given .far < 2 ^ 32) × (o .values .count ≡ 0) × (o .values .second ≡ 0) =
-    nearest-cases ns w (h .at) (h .nearest) (λ o. (o .given .far < 2 ^ 32) × (o .values .count ≡ 0) × (o .values .second ≡ 0))
+    nearest-cases ns w (h .at) (h .nearest) (λ (o : Outcome Reached Nothing). (o .given .far < 2 ^ 32) × (o .values .count ≡ 0) × (o .values .second ≡ 0))
     (λ p. (omega arith, refl, refl)) (omega arith, refl, refl) (λ f. (distance-few w (h .at) wish f, refl, refl)) in (
       beside (o .values) few (facts .1, facts .2) (o .given .far) r (facts .0) (h .answer),
       low-half (o .values) few (facts .1, facts .2) (o .given .far) r (facts .0) (h .answer),

@@ -1,11 +1,11 @@
 //! Is a cell permitted?
 
 use super::{compare_asked, time_asked};
-use crate::bench::Table;
 use crate::cases::Case;
 use crate::compare::Run;
 use crate::judge::{number, Known};
 use crate::map::{permits, Cell};
+use crate::table::Table;
 use crate::{damage, plain};
 
 /// The numbers that the query can answer.

@@ -1,9 +1,9 @@
 //! The check of a list.
 
-use crate::bench::Table;
 use crate::cases::Case;
 use crate::compare::{answers, Run};
 use crate::judge::{number, Known};
+use crate::table::Table;
 use crate::{damage, plain};
 
 /// The numbers that a check can answer.

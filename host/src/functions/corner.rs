@@ -1,11 +1,11 @@
 //! The corner report: the mask of the eight cells, how many are permitted, and the kind.
 
 use super::{compare_asked, time_asked};
-use crate::bench::Table;
 use crate::cases::Case;
 use crate::compare::Run;
 use crate::judge::{number, Known};
 use crate::map::{permits, Cell};
+use crate::table::Table;
 use crate::{make, plain};
 
 /// The numbers that the report can answer.

@@ -1,10 +1,10 @@
 //! Two maps joined.
 
-use crate::bench::Table;
 use crate::cases::Case;
 use crate::compare::{answers, Lent, Run};
 use crate::judge::{fits, number, put, Answer, Known, BAD_OPERATION, DONE, NO_ROOM};
 use crate::map::{cuts_of, list, Grid, MOST_VERTICES};
+use crate::table::Table;
 use crate::{damage, make, plain};
 
 /// The numbers that a join can answer.

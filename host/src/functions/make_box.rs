@@ -1,11 +1,11 @@
 //! The map of a box.
 
-use crate::bench::Table;
 use crate::cases::Case;
 use crate::compare::{answers, Lent, Run};
 use crate::judge::{fits, number, put, Answer, BAD_NUMBER, NO_ROOM};
 use crate::map::{list, Grid, Paint, HIGHEST, LOWEST};
 use crate::rng::Rng;
+use crate::table::Table;
 use crate::{make, plain};
 
 /// The numbers that a box can answer.

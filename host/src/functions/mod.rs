@@ -1,13 +1,13 @@
 //! One module a function: the answer that document 01 asks for, the comparison with a library's answer, and what is
 //! timed. The list below names the functions that are compared with the library.
 
-use crate::bench::Table;
-use crate::cases::{Case, Wish};
+use crate::cases::Case;
 use crate::compare::{answers, Run};
 use crate::judge::Known;
 use crate::lib_calls;
 use crate::make;
 use crate::rng::Rng;
+use crate::table::Table;
 
 pub mod cell;
 pub mod check;
@@ -16,6 +16,7 @@ pub mod join;
 pub mod make_box;
 pub mod nearest;
 pub mod nearest_distance;
+pub mod nearest_many;
 pub mod plane;
 pub mod program;
 pub mod section;
@@ -75,6 +76,15 @@ pub const FUNCTIONS: &[Function] = &[
     },
 ];
 
+/// The functions whose names end as one of these, or all.
+pub fn chosen(names: &[String]) -> Vec<&'static Function> {
+    let named = |f: &&Function| names.iter().any(|n| f.name.ends_with(n.as_str()));
+    FUNCTIONS
+        .iter()
+        .filter(|f| names.is_empty() || named(f))
+        .collect()
+}
+
 /// Compares a function of a list and three numbers; `number` reads the refusal in an answer.
 fn compare_asked(
     make_list: impl Fn(&mut Rng) -> Vec<i16>,
@@ -115,7 +125,7 @@ fn time_asked(
     }
 }
 
-/// Times a function of a list and a wish: inside the map, near it and far away.
+/// Times a function of a list and a wish, for wishes of each place.
 fn time_wishes(
     name: &str,
     ours: impl Fn(&[i16], [i16; 3]) -> u64,
@@ -124,16 +134,13 @@ fn time_wishes(
     table: &mut Table,
 ) {
     for case in cases {
-        for (place, word) in [
-            (Wish::Inside, "inside"),
-            (Wish::Near, "near"),
-            (Wish::Far, "far"),
-        ] {
+        for (word, wishes) in &case.wishes {
+            let wish = |turn: usize| wishes[turn % wishes.len()];
             table.row(
                 &format!("{name}, {word}"),
                 case,
-                |turn| ours(&case.list, case.wish(place, turn)),
-                |turn| plain(&case.list, case.wish(place, turn)),
+                |turn| ours(&case.list, wish(turn)),
+                |turn| plain(&case.list, wish(turn)),
             );
         }
     }

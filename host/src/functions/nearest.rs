@@ -1,11 +1,11 @@
 //! The nearest permitted cell to a wish.
 
 use super::{compare_asked, time_wishes};
-use crate::bench::Table;
 use crate::cases::Case;
 use crate::compare::Run;
 use crate::judge::{number, Answer, Known, EMPTY};
 use crate::map::Cell;
+use crate::table::Table;
 use crate::{damage, plain};
 
 /// The numbers that nearest can answer.

@@ -2,11 +2,11 @@
 
 use super::nearest::cell;
 use super::{compare_asked, time_wishes};
-use crate::bench::Table;
 use crate::cases::Case;
 use crate::compare::Run;
 use crate::judge::{number, Answer, Known};
 use crate::map::distance;
+use crate::table::Table;
 use crate::{damage, plain};
 
 /// The numbers that the distance can answer.

@@ -1,10 +1,10 @@
 //! The plane of vertices at a focus number, as a part of the list.
 
 use super::QUESTIONS;
-use crate::bench::Table;
 use crate::cases::Case;
 use crate::compare::Run;
 use crate::judge::Known;
+use crate::table::Table;
 use crate::{damage, make, plain};
 
 /// The plane query answers with its part alone.

@@ -2,11 +2,11 @@
 //! holds a folder of inputs and answers to the judge.
 
 use super::nearest;
-use crate::bench::Table;
 use crate::cases::Case;
 use crate::compare::Run;
 use crate::judge::{Known, DONE, EMPTY, ILL_FORMED, TOO_LONG, TOO_MANY, WRONG_SUM};
 use crate::map::MOST_VERTICES;
+use crate::table::Table;
 use crate::{lib_calls, make_text, plain};
 use std::collections::BTreeMap;
 use std::io::Write;
@@ -19,6 +19,8 @@ pub const NUMBERS: &[u8] = &[0, 2, 3, 4, 5, 7, 10, 11, 12];
 pub const MOST_BYTES: usize = 19_214;
 /// The most wishes.
 pub const MOST_WISHES: usize = 256;
+/// What sums are multiplied by: any odd number with its bits spread out.
+const SUM_BY: u64 = 0x9E37_79B9_7F4A_7C15;
 
 /// A refusal: number and place.
 type Refused = (u8, usize);
@@ -107,7 +109,7 @@ pub fn judge(input: &[u8]) -> (u8, String) {
 /// The answer line of a wish.
 fn answer_line(known: &Known, wish: [i16; 3]) -> String {
     let packed = nearest::judge(known, wish);
-    format!("05{:02X}{:012X}\n", packed >> 48, packed & 0xFFFF_FFFF_FFFF)
+    format!("05{:02X}{:012X}\n", packed >> 56, packed & 0xFFFF_FFFF_FFFF)
 }
 
 /// Compares a program with the judge's: bytes in, bytes out. The judge itself is held to what the kind of input says.
@@ -126,18 +128,25 @@ pub fn compare(call: impl Fn(&[u8]) -> Vec<u8>, run: &mut Run) {
     }
 }
 
-/// Times the program on a full input: the most vertices and the most wishes.
+/// A number that sums up what was written.
+fn sum(written: &[u8]) -> u64 {
+    written.chunks(8).fold(written.len() as u64, |sum, eight| {
+        let mut bytes = [0; 8];
+        bytes[..eight.len()].copy_from_slice(eight);
+        (sum ^ u64::from_le_bytes(bytes)).wrapping_mul(SUM_BY)
+    })
+}
+
+/// Times the program with as many wishes as there may be.
 pub fn time(call: impl Fn(&[u8]) -> Vec<u8>, cases: &[Case], table: &mut Table) {
     for case in cases {
-        let input = case.input();
-        if call(&input) != plain::program(&input) {
-            table.differs("program", case);
-        }
+        let inputs = case.inputs();
+        let input = |turn: usize| &inputs[turn % inputs.len()];
         table.row(
             "program",
             case,
-            |_| call(&input).len() as u64,
-            |_| plain::program(&input).len() as u64,
+            |turn| sum(&call(input(turn))),
+            |turn| sum(&plain::program(input(turn))),
         );
     }
 }

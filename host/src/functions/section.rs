@@ -1,12 +1,12 @@
 //! The section at a code of an axis.
 
 use super::QUESTIONS;
-use crate::bench::Table;
 use crate::cases::Case;
 use crate::compare::{answers, Lent, Run};
 use crate::judge::{fits, number, put, Answer, Known, BAD_NUMBER, NO_ROOM};
 use crate::map::{HIGHEST_CODE, LOWEST, MOST_VERTICES};
 use crate::rng::Rng;
+use crate::table::Table;
 use crate::{damage, make, plain};
 
 /// The numbers that a section can answer.

@@ -1,11 +1,11 @@
 //! The two halves of a map at a corner number of an axis.
 
 use super::section::axis_asked;
-use crate::bench::Table;
 use crate::cases::Case;
 use crate::compare::{answers, Lent, Run};
 use crate::judge::{fits, number, put, Answer, Known, BAD_NUMBER, NO_ROOM};
 use crate::map::{cuts_of, list, Grid, HIGHEST, LOWEST, MOST_VERTICES};
+use crate::table::Table;
 use crate::{damage, make, plain};
 
 /// The numbers that a split can answer.

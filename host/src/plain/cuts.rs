@@ -50,7 +50,7 @@ pub fn section(list: &[i16], axis: u32, code: i16, result: &mut [i16]) -> u64 {
 }
 
 /// What stands in one of two rising lists, but not in both.
-fn either(one: &[u64], other: &[u64]) -> Vec<u64> {
+pub fn either<T: Ord + Copy>(one: &[T], other: &[T]) -> Vec<T> {
     let mut found = Vec::with_capacity(one.len());
     let (mut i, mut j) = (0, 0);
     while i < one.len() && j < other.len() {

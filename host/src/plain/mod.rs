@@ -2,21 +2,25 @@
 //! They answer as the library does; the self-test compares them with the judge.
 
 mod asks;
+mod boxes;
 mod check;
 mod cuts;
 mod join;
 mod lists;
 mod nearest;
 mod program;
+mod rank;
 mod rows;
+mod tree;
 
 pub use asks::{cell, corner, make_box, plane};
 pub use check::check;
 pub use cuts::{section, split};
 pub use join::join;
 pub use lists::{join_by_lists, join_word_for_word};
-pub use nearest::{nearest, nearest_distance};
+pub use nearest::{nearest, nearest_distance, nearest_many};
 pub use program::program;
+pub use tree::Tree;
 
 /// The most vertices of a list.
 const MOST: usize = 1024;

@@ -122,7 +122,7 @@ pub fn program(input: &[u8]) -> Vec<u8> {
     let mut output = Vec::with_capacity(17 * wishes.len());
     for wish in wishes {
         output.extend(b"0500");
-        let (_, cell) = ready.best(wish.map(i32::from));
+        let (_, cell) = ready.best(wish);
         cell.into_iter().for_each(|n| put(&mut output, n as u16));
         output.push(b'\n');
     }

@@ -1,4 +1,4 @@
-//! Ordinary Rust: the section of a map as rows of bits, for join and nearest. There is a row for each stretch of the
+//! Ordinary Rust: the section of a map as rows of bits, for join. There is a row for each stretch of the
 //! first shift, and a bit for each stretch of the second. A plane of vertices flips part of it.
 
 use std::ops::Range;

@@ -83,7 +83,7 @@ fn cells(test: &mut Test) {
     test.holds("example 1, cell", cell::judge(&none, [0; 3]) == 0);
     test.holds(
         "example 1, nearest",
-        nearest::judge(&none, [0; 3]) == 7 << 48,
+        nearest::judge(&none, [0; 3]) == 7 << 56,
     );
     let whole = known(&boxes(&[[[-512, 512]; 3]]));
     test.holds("example 5, low", cell::judge(&whole, [-512; 3]) == 1);

@@ -72,6 +72,7 @@ pub fn liars(test: &mut Test) {
     cuts::cuts(test);
     cuts::joins(test);
     nearests::nearests(test);
+    nearests::many(test);
 }
 
 /// One bit of an answer is wrong now and then.
@@ -103,6 +104,12 @@ fn flipped_bit(test: &mut Test, bit: u32) {
     test.reports(&format!("nearest, bit {bit}"), |run| {
         nearest::compare(|list, n| ask(nearest::judge, list, n), run)
     });
+    test.reports(&format!("nearest many, bit {bit}"), |run| {
+        let call = |list: &[i16], wishes: &[i16], result: &mut [i16]| {
+            lie(nearest_many::judge(&known(list), wishes, result))
+        };
+        nearest_many::compare(call, run)
+    });
     test.reports(&format!("distance, bit {bit}"), |run| {
         nearest_distance::compare(|list, n| ask(nearest_distance::judge, list, n), run)
     });
@@ -126,6 +133,14 @@ fn spoilt_results(test: &mut Test, lie: Lie) {
             answer
         };
         section::compare(call, run)
+    });
+    test.reports(&format!("nearest many, {lie:?}"), |run| {
+        let call = |list: &[i16], wishes: &[i16], result: &mut [i16]| {
+            let answer = nearest_many::judge(&known(list), wishes, result);
+            lie.spoil(answer, 3 * count(answer), result);
+            answer
+        };
+        nearest_many::compare(call, run)
     });
     for second in [false, true] {
         test.reports(&format!("split, {lie:?}, {second}"), |run| {

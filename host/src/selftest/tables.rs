@@ -1,17 +1,22 @@
 //! The tables: a line for each function and map, wrong answers reported, stack and size measured as they are.
 
 use super::Test;
-use crate::bench::Table;
-use crate::cases::{Case, Cases};
+use crate::cases::{Case, Cases, SIZES, SLOW_SIZES};
+use crate::families::{recipe, Recipe, FAMILIES, KNOBS};
+use crate::finds::{self, FINDS};
 use crate::functions::*;
+use crate::map::list;
+use crate::rng::Rng;
 use crate::size::{of_archive, Size};
 use crate::summary::{growth_table, worst_table, Line};
+use crate::table::{Pace, Table};
 use crate::{plain, stack};
 use std::hint::black_box;
-use std::time::Duration;
 
 /// The most vertices of maps whose joins are timed here.
 const MOST: usize = 256;
+/// Maps of the families that are tried.
+const FAMILY_MAPS: usize = 200;
 /// The bytes of a local array.
 const BYTES: usize = 100_000;
 /// The most that a call takes beside its local arrays.
@@ -19,12 +24,12 @@ const FRAME: usize = 1_000;
 
 /// A line for each map, and wrong answers reported.
 fn times(test: &mut Test) {
-    let cases = Cases::new();
+    let cases = Cases::ordinary();
     let others = cases.of("");
     let joins = cases.of("travelmap_join").iter();
     let joins: Vec<Case> = joins.filter(|c| c.vertices <= MOST).cloned().collect();
     let full = cases.of("travel");
-    let mut table = Table::of_times(Duration::from_nanos(1), 1);
+    let mut table = Table::of_times(Pace::ONCE);
     check::time(plain::check, others, &mut table);
     make_box::time(plain::make_box, others, &mut table);
     cell::time(plain::cell, others, &mut table);
@@ -34,9 +39,10 @@ fn times(test: &mut Test) {
     split::time(plain::split, others, &mut table);
     nearest::time(plain::nearest, others, &mut table);
     nearest_distance::time(plain::nearest_distance, others, &mut table);
+    nearest_many::time(plain::nearest_many, others, &mut table);
     program::time(plain::program, full, &mut table);
     join::time(plain::join, &joins, &mut table);
-    let lines = 16 * others.len() + 2 + full.len();
+    let lines = 19 * others.len() + 2 + full.len();
     test.holds("a line for each map", table.lines.len() == lines);
     test.holds("full maps", full.len() == 4);
     let pairs = 4 * joins.len();
@@ -50,6 +56,51 @@ fn times(test: &mut Test) {
     table.wrong.clear();
     program::time(|_| Vec::new(), full, &mut table);
     test.holds("wrong programs that are timed", !table.wrong.is_empty());
+}
+
+/// The valid list that a map of the families is.
+fn families(test: &mut Test) {
+    let mut rng = Rng::new(1);
+    for turn in 0..FAMILY_MAPS {
+        let recipe = Recipe {
+            family: turn % FAMILIES.len(),
+            knobs: [0; KNOBS].map(|_| rng.bits() as u8),
+        };
+        for size in SIZES {
+            let map = recipe.map(size);
+            let valid = map.len() <= size && plain::check(&list(&map)) == 0;
+            test.holds(&format!("a map, {}, {size}", recipe.text()), valid);
+        }
+    }
+    for find in FINDS {
+        let cases = SLOW_SIZES
+            .iter()
+            .filter_map(|size| finds::case(find, *size));
+        test.holds(&format!("a find, {}", find.name), cases.count() > 0);
+    }
+}
+
+/// Of a slow map the slowest call is found, and the one with the worst ratio, and wrong answers are reported.
+fn slow_points(test: &mut Test) {
+    let maps = [recipe("grid", [0; KNOBS]); 2];
+    let case = Case::slow("grid", maps, SIZES[1])
+        .into_iter()
+        .collect::<Vec<_>>();
+    let wish = case[0].wishes[0].1[5];
+    let mut table = Table::of_times(Pace::SEARCH);
+    let slow = |list: &[i16], asked: [i16; 3]| {
+        let times = if asked == wish { 100 } else { 1 };
+        (0..times).fold(0, |_, _| black_box(plain::nearest(list, asked)))
+    };
+    nearest::time(slow, &case, &mut table);
+    let found = table
+        .lines
+        .iter()
+        .all(|line| line.asked == case[0].points[5]);
+    test.holds("the slowest point", found && !table.lines.is_empty());
+    test.holds("answers of slow maps", table.wrong.is_empty());
+    nearest::time(|_, _| 1, &case, &mut table);
+    test.holds("wrong answers of slow maps", !table.wrong.is_empty());
 }
 
 /// Stack is measured as it is: of a call with a large local array, of one without, and of one within another.
@@ -79,6 +130,7 @@ fn line(vertices: usize, ours: f64, plain: f64) -> Line {
         function: "check".to_string(),
         map: "boxes".to_string(),
         vertices,
+        asked: String::new(),
         ours,
         plain,
     }
@@ -132,6 +184,8 @@ fn sizes(test: &mut Test) {
 /// All tests of the tables.
 pub fn tables(test: &mut Test) {
     times(test);
+    families(test);
+    slow_points(test);
     stacks(test);
     summaries(test);
     sizes(test);

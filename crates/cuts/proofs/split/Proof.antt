@@ -12,10 +12,10 @@ use Rattle.meaning.specs.declared.Verdict.the-variants.{Valid as Passed}
 use Rattle.meaning.proofs.Checked.{verdict-valid}
 use Rattle.codes.specs.Lift.{lifted}
 use Rattle.meaning.proofs.Flags.{said-no, said-yes}
-use Rattle.lists.proofs.Verdicts.{checked-verdict}
+use Rattle.lists.proofs.Verdicts.{checked-verdict, refused-not}
 use Rattle.lists.proofs.Vertices.{length-vertices}
 use Rattle.cuts.specs.Steps.{inRange}
-use Rattle.cuts.proofs.Promises.{range-low, range-high, split-bad, split-refused, split-made, refused-not}
+use Rattle.cuts.proofs.Promises.{range-low, range-high, split-bad, split-refused, split-made}
 use borrow.Author.Needs.{needs}
 use Rattle.cuts.proofs.split.Statement.{statement}
 use Rattle.cuts.proofs.split.Tie as tie

@@ -69,10 +69,8 @@ returns c =
     let at-refuse = c .before .before in
     let at-number = at-refuse .before .before .before in
     let at-read-wishes = at-number .before .before .before in
-    let start = at-read-wishes .before .before .before .before in
     let e = ap (λ r. meant r (at-read-wishes .read-wishes .last .1 .1 .0)) (sym (at-number .number .given .1)) ∙ at-read-wishes .read-wishes .ensures .0 in
-    let h : 9 ≤ length (now (start .args .out)) = omega (arith, start .pre .1 .1) in
-    wishes-refused _ e h (at-refuse .refuse .ensures)
+    wishes-refused _ e (at-refuse .refuse .ensures)
 
 same-length-2 : tie.Need-same-length-2
 same-length-2 c = search needs

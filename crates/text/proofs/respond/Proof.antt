@@ -19,7 +19,7 @@ refuse-requires : tie.Need-refuse-requires
 refuse-requires c κs = search needs
 
 returns : tie.Need-returns
-returns c = bytes-refused _ (c .before .before .if1 .taken) (search needs) (c .refuse .ensures)
+returns c = bytes-refused _ (c .before .before .if1 .taken) (c .refuse .ensures)
 
 slice-aggregate-read-map : tie.Need-slice-aggregate-read-map
 slice-aggregate-read-map c = search needs
@@ -73,7 +73,7 @@ returns-2 c =
     let at-read-map = at-number .before .before .before in
     let at-if1 = at-read-map .before .before in
     let e = ap (λ r. meant r (at-read-map .read-map .last .1 .0)) (sym (at-number .number .given .1)) ∙ at-read-map .read-map .ensures .0 in
-    map-refused _ (at-if1 .if1 .left) e (search needs) (c .refuse2 .ensures)
+    map-refused _ (at-if1 .if1 .left) e (c .refuse2 .ensures)
 
 returns-3 : tie.Need-returns-3
 returns-3 c =

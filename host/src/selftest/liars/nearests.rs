@@ -1,7 +1,7 @@
 //! Wrong nearest cells and distances.
 
 use super::known;
-use crate::functions::{nearest, nearest_distance};
+use crate::functions::{nearest, nearest_distance, nearest_many};
 use crate::judge::number;
 use crate::map::{distance, Cell, Grid};
 use crate::selftest::Test;
@@ -72,4 +72,67 @@ pub fn nearests(test: &mut Test) {
         };
         nearest::compare(call, run)
     });
+}
+
+/// A wrong answer to many wishes.
+type ManyLie = fn(&[i16], &[i16], &mut [i16]) -> u64;
+
+/// Faults of nearest for many wishes.
+const MANY: [(&str, ManyLie); 7] = [
+    (
+        "wishes that do not come in threes cut short",
+        |list, wishes, result| {
+            let whole = wishes.len() / 3 * 3;
+            nearest_many::judge(&known(list), &wishes[..whole], result)
+        },
+    ),
+    (
+        "the list before the wishes",
+        |list, wishes, result| match known(list) {
+            wrong if !wrong.valid() => wrong.verdict.packed(),
+            right => nearest_many::judge(&right, wishes, result),
+        },
+    ),
+    ("the room before the list", |list, wishes, result| {
+        match wishes.len().is_multiple_of(3) && wishes.len() > result.len() {
+            true => 6 << 56,
+            false => nearest_many::judge(&known(list), wishes, result),
+        }
+    }),
+    ("as many as fit", |list, wishes, result| {
+        let fit = match wishes.len().is_multiple_of(3) {
+            true => wishes.len().min(result.len() / 3 * 3),
+            false => wishes.len(),
+        };
+        nearest_many::judge(&known(list), &wishes[..fit], result)
+    }),
+    (
+        "one number of room too many asked",
+        |list, wishes, result| {
+            let short = result.len().saturating_sub(1);
+            nearest_many::judge(&known(list), wishes, &mut result[..short])
+        },
+    ),
+    (
+        "no wish of the empty list done",
+        |list, wishes, result| match list.is_empty() && wishes.is_empty() {
+            true => 0,
+            false => nearest_many::judge(&known(list), wishes, result),
+        },
+    ),
+    ("the first wish's cell for all", |list, wishes, result| {
+        let answer = nearest_many::judge(&known(list), wishes, result);
+        let cells = 3 * (answer & 0xFFFF) as usize;
+        (3..cells).for_each(|at| result[at] = result[at - 3]);
+        answer
+    }),
+];
+
+/// Faults of nearest for many wishes.
+pub fn many(test: &mut Test) {
+    for (name, call) in MANY {
+        test.reports(&format!("nearest many, {name}"), |run| {
+            nearest_many::compare(call, run)
+        });
+    }
 }
