@@ -54,7 +54,9 @@ enum travelmap_number {
     TRAVELMAP_TOO_LONG = 12      /* program input over 19,214 bytes */
 };
 
-/* The parts of an answer. */
+/* The parts of an answer. The number is that of every answer but travelmap_plane's, which has none: there it gives 0. The
+   operand and the place are those of a refusal; of a nearest cell that was found, whose focus stands where a place would,
+   TRAVELMAP_NEAREST_PLACE gives 0. The counts are those of the functions that make lists. */
 #define TRAVELMAP_NUMBER(answer) ((unsigned)((uint64_t)(answer) >> 56))
 #define TRAVELMAP_OPERAND(answer) ((unsigned)((uint64_t)(answer) >> 48 & 0xFF))
 #define TRAVELMAP_PLACE(answer) ((unsigned)((uint64_t)(answer) >> 32 & 0xFFFF))

@@ -2,6 +2,7 @@
 --   halves-stand                             the lists of the two halves stand at the fronts of the results
 --   section-asked, split-asked               what is done was asked of an axis, a number in range and a travel map
 --   section-squares, section-count           of a section that is done with n pairs: the first 2n numbers, square by square; they are n pairs
+--   section-behind, lower-behind, upper-behind    everything behind what was made is untouched
 --   lower-cells, lower-count                 of a split that is done with m and n vertices: the first 3m numbers of one result, cell by cell
 --   upper-cells, upper-count                 and the first 3n of the other
 -- Assumes nothing.
@@ -12,7 +13,7 @@ use mathlib.Core.Option.{some}
 use Prim.Native.Nat.{ℕ, _*_}
 use native.Mathlib.Omega.{arith}
 use lib.IntN.{ℤ}
-use lib.ListN.{length, take}
+use lib.ListN.{length, take, drop}
 use Rattle.meaning.specs.Numbers.{Axis, Corner, Square, isCode, isNumber}
 use Rattle.meaning.specs.Lists.{vertices, numbers, permitted, Valid}
 use Rattle.meaning.specs.Verdicts.{verdict, passes}
@@ -20,7 +21,7 @@ use Rattle.meaning.specs.OneList.{onePairs, WithinCodes}
 use Rattle.meaning.specs.Made.{MapOf, pairs, PairsOf}
 use Rattle.meaning.specs.Operations.{axisOf, sectionAt, lowerHalf, upperHalf, pairNumbers}
 use Rattle.meaning.specs.Outcomes.{outcome, nothing, done, doneBoth, perVertex, perPair, fits, placed}
-use Rattle.meaning.proofs.Made.{length-pairs, Stands, placed-stands, read-front, pairs-back, front-map, front-count, one-squares}
+use Rattle.meaning.proofs.Made.{length-numbers, length-pairs, Stands, placed-stands, stands-behind, read-front, pairs-back, front-map, front-count, one-squares}
 use Rattle.meaning.proofs.Checked.{passes-valid}
 use Rattle.meaning.proofs.Maps.{valid-within}
 use Rattle.meaning.proofs.Making.{section-within, lower-within, upper-within}
@@ -87,6 +88,9 @@ module _ (ns : List ℤ) (which : ℕ) (k : ℤ) (before : List ℤ) (n : ℕ) (
     pub section-count : length (pairs (take (perPair * n) after)) ≡ n
     section-count = ap length front-pairs ∙ sym (stands .many)
 
+    pub section-behind : drop (perPair * n) after ≡ drop (perPair * n) before
+    section-behind = stands-behind perPair pairNumbers length-pairs (onePairs squares) before n after stands
+
 -- ---- a split that is done with m and n vertices, on the axis with this number
 
 module _ (ns : List ℤ) (which : ℕ) (p : ℤ) (low high : List ℤ) (m n : ℕ) (low′ high′ : List ℤ)
@@ -119,8 +123,14 @@ module _ (ns : List ℤ) (which : ℕ) (p : ℤ) (low high : List ℤ) (m n : �
     pub lower-count : length (vertices (take (perVertex * m) low′)) ≡ m
     lower-count = front-count _ (lower-within axis p _ within) low m low′ (both-stand .0)
 
+    pub lower-behind : drop (perVertex * m) low′ ≡ drop (perVertex * m) low
+    lower-behind = stands-behind perVertex numbers length-numbers (lowerList axis p ns) low m low′ (both-stand .0)
+
     pub upper-cells : MapOf (upperHalf axis p (permitted (vertices ns))) (vertices (take (perVertex * n) high′))
     upper-cells = front-map _ (upper-within axis p _ within) high n high′ (both-stand .1)
 
     pub upper-count : length (vertices (take (perVertex * n) high′)) ≡ n
     upper-count = front-count _ (upper-within axis p _ within) high n high′ (both-stand .1)
+
+    pub upper-behind : drop (perVertex * n) high′ ≡ drop (perVertex * n) high
+    upper-behind = stands-behind perVertex numbers length-numbers (upperList axis p ns) high n high′ (both-stand .1)

@@ -1,6 +1,7 @@
 -- Outcomes: the cases of their order, and that the values tell verdicts apart.
 --   verdict-back                    the number and the place give the verdict back
 --   refused-once, verdict-once      the values of a refusal, and those of the check, tell verdicts apart
+--   refused-numbers                 document 01's table of refusals 1 to 5
 --   checked-next, checked-refused   the check's part in the order of refusals
 --   checked-values                  where nothing follows the check, its values are those of the verdict
 --   placed-fits, placed-short       a list that fits, and one that does not
@@ -15,7 +16,7 @@ use lib.ListN.{length}
 use Rattle.meaning.specs.Verdicts.{passes, refusalNumber, refusalPlace}
 use Rattle.meaning.specs.declared.Verdict.{Verdict}
 use Rattle.meaning.specs.declared.Verdict.the-variants.{Valid, NotTriples, TooMany, OutOfRange, NotRising, OddLine}
-use Rattle.meaning.specs.Outcomes.{Values, Outcome, done, refused, verdictValues, outcome, Nothing, nothing, kept, checked, fits, front, placed, noRoom}
+use Rattle.meaning.specs.Outcomes.{Values, Outcome, done, refused, refusal, verdictValues, outcome, Nothing, nothing, kept, checked, fits, front, placed, noRoom}
 
 -- ---- the values tell verdicts apart
 
@@ -52,6 +53,12 @@ values-back (OddLine i) = refl
 
 pub verdict-once : (v w : Verdict) → verdictValues v ≡ verdictValues w → v ≡ w
 verdict-once v w e = sym (values-back v) ∙ ap verdictIn e ∙ values-back w
+
+-- document 01's table, of the list that is this operand: numbers 1 to 5, with a vertex as the place of 3, 4 and 5
+pub refused-numbers : (operand i : ℕ) → (refused operand NotTriples ≡ refusal 1 operand 0) × (refused operand TooMany ≡ refusal 2 operand 0) ×
+    (refused operand (OutOfRange i) ≡ refusal 3 operand i) × (refused operand (NotRising i) ≡ refusal 4 operand i) ×
+    (refused operand (OddLine i) ≡ refusal 5 operand i)
+refused-numbers operand i = (refl, refl, refl, refl, refl)
 
 -- ---- the order of refusals
 

@@ -1,6 +1,7 @@
 -- What the program writes, of every input (document 01, "Map text and the program"; docs/DECISIONS.md, 5 to 10).
 --   mostBytes             the most bytes of input: a full map and the most wishes
---   Response, response      what the input comes to: a refusal with its number and place; or the numbers of a map and of the wishes
+--   Response, response    what the input comes to: a refusal with its number and place; or the numbers of a map and of the wishes
+--   withWishes, withMap   the same, of what the text of the wishes and that of the map come to
 --   Writes                what may be written: the 06 line and nothing else, or the answers. Nearest cells are unique, so this settles
 --                         the output (proofs/Settled.antt)
 --   Put                   what is written stands at the front of the room lent, and all behind it is untouched

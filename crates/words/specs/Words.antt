@@ -1,5 +1,5 @@
 -- A signed number of 16 bits as its bits in two's complement, and back.
---   halfWords, allWords   how many numbers of 16 bits there are, and half of them
+--   halfWords, allWords   half of the numbers of 16 bits, and how many there are
 --   word                  the bits of a signed number, as a number without sign: those of -3 are FFFD
 --   signed                the signed number with these bits: FFFD is -3
 use mathlib.Core.Bool.{cond}
