@@ -1,0 +1,2 @@
+-- The cells of lists of numbers, and their ranks.
+pub mod Cells
