@@ -66,11 +66,11 @@ module _ (scale : Scale) (sound : Sound scale) (c : ℕ) (inside : c < 1024) whe
 
 -- ---- the code behind a number, and away from the wish
 
-pub behind-above : {w e : ℕ} → w < e → behind w e ≡ e
-behind-above {w} {e} h = ap (λ t. cond t e (e - 1)) (lt-ltb w e h)
+pub behind-above : (w e : ℕ) → w < e → behind w e ≡ e
+behind-above w e h = ap (λ t. cond t e (e - 1)) (lt-ltb w e h)
 
-pub behind-upto : {w e : ℕ} → e ≤ w → behind w e ≡ e - 1
-behind-upto {w} {e} h = ap (λ t. cond t e (e - 1)) (le-ltb w e h)
+pub behind-upto : (w e : ℕ) → e ≤ w → behind w e ≡ e - 1
+behind-upto w e h = ap (λ t. cond t e (e - 1)) (le-ltb w e h)
 
 pub behind-low : (w e : ℕ) → behind w e ≤ e
 behind-low w e = go (ltb w e)

@@ -1,12 +1,10 @@
 -- Inner: the cells of lists of numbers and their ranks, what the parts of the search for the nearest cell lend each other.
---   axisCodes                       how many codes an axis has
 --   lineUnit, planeUnit             how far two neighbouring lines, and two neighbouring planes, lie apart as keys
 --   Best                            the least of a number and the ranks of a set
 --   Depth, point, over              what lies inside: nothing more; one axis more, where a number has a high part and a rest
 --   Rank                            the rank of a cell that a list permits, from a base up
 --   high, rest                      the parts of a number that counts by a unit
 --   axisOver, lineIn, sectionIn, mapIn     the cells of a line, of a section and of a map
---   behind                          the code just behind a number as seen from a wish
 --   Part                            the rank of a cell that is permitted by the rests of those numbers of a list that pass a test
 --   Here                            a cell at the wish's code: of the numbers with a high part up to it
 --   Turned                          a cell just behind a high part between two: of the numbers with that high part, by themselves
@@ -14,13 +12,12 @@
 --   Cut                             a place where no run of one high part goes on
 --   Run                             the numbers from one place to below another have one high part
 --   Edge                            a cut up to which all high parts are at most a code, and behind which none is
---   fits                            how large a rank that cells are counted from may be
 -- `_⊕_` is exclusive or, and `sum` the exclusive or of a test over a list: whether an odd number of its members pass (`meaning/proofs/Parity.antt`).
 use mathlib.Core.Path.{_≡_}
 use mathlib.Core.Logic.{_⊎_}
 use mathlib.Core.Bool.{Bool, true, _&&_, cond}
 use mathlib.Core.List.{List}
-use Prim.Native.Nat.{ℕ, _+_, _-_, _/_, _%_, _^_, _≤_, _<_, min}
+use Prim.Native.Nat.{ℕ, _+_, _-_, _/_, _%_, _≤_, _<_, min}
 use lib.Dec.{leb, ltb, eqb}
 use lib.ListN.{length, getD}
 use Rattle.meaning.proofs.Parity.{sum}
@@ -120,6 +117,3 @@ pub record Edge (hi : ℕ → ℕ) (l : List ℕ) (code i : ℕ) : Type 0 where
   pub within : i ≤ length l
   pub upto : (j : ℕ) → j < i → hi (getD l j 0) ≤ code
   pub beyond : (j : ℕ) → i ≤ j → j < length l → code < hi (getD l j 0)
-
-abbrev pub Counted : ℕ → Type 0
-Counted base = base < 2 ^ 60

@@ -1,2 +1,0 @@
--- The cells of lists of numbers, and their ranks.
-pub mod Cells
