@@ -2,6 +2,7 @@
 --   turned-first                 there is nothing behind numbers below the first
 --   turned-run                   the cells behind one run are those of its own rests
 --   turned-above, turned-below   no run from a place up, or down, is better
+--   Passed, passed-..            the cells behind the runs from a bound up to a place
 --   here-of                      the cells at the wish's code are those of the numbers up to it
 -- Assumes nothing.
 use mathlib.Core.Path.{_≡_, refl, sym, _∙_, ap, subst}
@@ -18,8 +19,8 @@ use Rattle.ranks.specs.declared.Scale.{Scale}
 use Rattle.ranks.specs.Values.{axisCodes, value, behind, Sound}
 use Rattle.ranks.proofs.Costs.{value-away, behind-above, behind-upto}
 use Rattle.cells.specs.Cells.{Best, Depth, Rank, Part, Here, Turned, high, rest, highAt, Cut, Run, Edge}
-use Rattle.cells.proofs.Best.{best-none, best-same}
-use Rattle.cells.proofs.Axis.{part-of, turned-none, turned-stop}
+use Rattle.cells.proofs.Best.{best-same}
+use Rattle.cells.proofs.Axis.{part-of, turned-two, turned-stop}
 use Rattle.cells.proofs.Line.{hit}
 use Rattle.squares.proofs.Runs.{runOf, sum-run, sum-upto, high-mono, high-in, high-out}
 
@@ -140,6 +141,37 @@ module _ (unit : ℕ) (scale : Scale) (D : Depth) (l : List ℕ) (base : ℕ) (u
               let y = ap (value scale) (behind-upto w e (omega arith)) in
               omega (arith, x, y, value-away scale sound .down (e - 1) (last - 1) (omega arith) (omega arith))
           go false t = absurd (omega (arith, from-place unit l u rises i j (ltb-false j i t) p))
+
+-- the cells behind the runs from a bound up to a place
+pub record Passed (unit : ℕ) (scale : Scale) (D : Depth) (l : List ℕ) (base from best i found : ℕ) : Type 0 where
+  pub cut : Cut (high unit) l i
+  pub order : from ≤ highAt (high unit) l i
+  pub seen : Best (Turned unit scale D l from (highAt (high unit) l i) base) best found
+
+module _ {unit : ℕ} {scale : Scale} {D : Depth} {l : List ℕ} {base from best i found : ℕ} (u : 0 < unit) (rises : From 0 l)
+    (passed : Passed unit scale D l base from best i found)
+  where
+    -- one run more
+    pub passed-on : {e r : ℕ} → Run (high unit) l i e → Cut (high unit) l e → high unit (getD l i 0) < axisCodes
+        → Best (Rank D (map (rest unit) (runOf l i e)) (base + value scale (behind (scale .wish) (high unit (getD l i 0))))) found r
+        → Passed unit scale D l base from best e r
+    passed-on {e} {r} run after low h =
+        let ends = turned-ends unit scale D l base u rises run (passed .cut) after low in
+        record {
+          cut = after;
+          order = omega (arith, passed .order, ends);
+          seen = turned-two (passed .order) ends (passed .seen) (turned-run unit scale D l base u rises run (passed .cut) after low h);
+        }
+
+    -- no run is left, or none below the end
+    pub passed-all : length l ≤ i → Best (Turned unit scale D l from axisCodes base) best found
+    passed-all h =
+        subst (λ (n : ℕ). Best (Turned unit scale D l from n base) best found) (high-out (high unit) l i h) (passed .seen)
+
+    pub passed-codes : i < length l → axisCodes ≤ high unit (getD l i 0) → Best (Turned unit scale D l from axisCodes base) best found
+    passed-codes h k =
+        let e : highAt (high unit) l i ≡ axisCodes = high-in (high unit) l i h ∙ omega arith in
+        subst (λ (n : ℕ). Best (Turned unit scale D l from n base) best found) e (passed .seen)
 
 -- the numbers up to the wish's code
 pub here-of : (unit : ℕ) (scale : Scale) (D : Depth) (l : List ℕ) (base place : ℕ) {m r : ℕ} → Edge (high unit) l (scale .wish) place
