@@ -3,7 +3,7 @@
 --   from-rising, run-on-list, edge-on-list     what is said of a list less 0 is said of the list
 --   Sunk, sunk-..                    the cells behind the planes below a place
 --   pairs-front                      the pairs of some keys, brought to order
---   section-cells, section-rising    the cells at the wish's focus, from either side of it
+--   section-cells, section-rising, section-few    the cells at the wish's focus, from either side of it
 -- Assumes nothing.
 use mathlib.Core.Path.{_≡_, refl, sym, _∙_, ap, ap₂, subst}
 use mathlib.Core.Logic.{_⊎_, inl, inr}
@@ -20,7 +20,7 @@ use Rattle.meaning.proofs.Parity.{_⊕_, ⊕-self, ⊕-cancel, sum, sum-append,
 use Rattle.rising.specs.Merged.{From, lessBase, norm}
 use Rattle.rising.specs.Placed.{Front}
 use Rattle.rising.proofs.Sums.{from-less, sum-norm, norm-from}
-use Rattle.rising.proofs.Order.{less-none, front-append}
+use Rattle.rising.proofs.Order.{less-none, front-append, front-few}
 use Rattle.rising.proofs.Written.{Filling, filling-ends}
 use Rattle.ranks.specs.declared.Scale.{Scale}
 use Rattle.ranks.specs.Values.{axisCodes, value, behind, Sound}
@@ -146,3 +146,8 @@ module _ (scale : Scale) (D : Depth) (l : List ℕ) (place : ℕ) (edge : Edge (
 pub section-rising : (l : List ℕ) (place : ℕ) (room : List ℕ) (n : ℕ) → OneSide l place room n → Rising 0 (take n room)
 section-rising l place room n (inl f) = from-rising (take n room) (subst (From 0) (sym (f .contents)) (norm-from (map (rest planeUnit) (take place l))))
 section-rising l place room n (inr f) = from-rising (take n room) (subst (From 0) (sym (f .contents)) (norm-from (map (rest planeUnit) (drop place l))))
+
+-- and are no more than the room holds
+pub section-few : (l : List ℕ) (place : ℕ) (room : List ℕ) (n : ℕ) → OneSide l place room n → n ≤ length room
+section-few l place room n (inl f) = front-few f
+section-few l place room n (inr f) = front-few f
