@@ -40,7 +40,7 @@ module _ {unit : ℕ} {scale : Scale} {D : Depth} {l : List ℕ} {base : ℕ} wh
   -- nothing behind the high parts of a stretch is better
   pub turned-stop : {low high′ m : ℕ}
       → ((e : ℕ) (t : D .Rest) → low ≤ e → e < high′ → sum (λ k. eqb (high unit k) e && D .test t (rest unit k)) l ≡ true
-          → m ≤ base + value scale (behind (scale .wish) e))
+      → m ≤ base + value scale (behind (scale .wish) e))
       → Best (Turned unit scale D l low high′ base) m m
   turned-stop {low} {high′} {m} h =
       best-none (Turned unit scale D l low high′ base) m
@@ -119,8 +119,7 @@ module _ (unit : ℕ) (scale : Scale) (sound : Sound scale) (D : Depth) (l : Lis
       (q, record { at = (w, h .at); within = (sound .code, h .within); member = h .member; is = omega (arith, h .is) }, omega arith)
   cell-of q (inr h) =
       let t = h .cell .at in
-      let c = to-code away (at t) (h .number) (turns-sum (high unit) (λ k. D .test t (rest unit k)) l (h .number) ∙ h .cell .member) in
-      (
+      let c = to-code away (at t) (h .number) (turns-sum (high unit) (λ k. D .test t (rest unit k)) l (h .number) ∙ h .cell .member) in (
         base + (v (c .code) + D .worth t),
         record { at = (c .code, t); within = (omega (arith, c .upto, h .below), h .cell .within); member = c .holds; is = refl },
         omega (arith, c .near, h .cell .is),

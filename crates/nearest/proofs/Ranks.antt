@@ -107,7 +107,7 @@ even-keys B D l valid (b, (d, _)) = go (permitted l (cellAt 1024 b d)) refl
     whole =
         sum-places (λ k. sectionIn B D .test (b, (d, tt)) (rest planeUnit k)) (mapIn B B D .test (1024, (b, (d, tt)))) (map keyOf l)
         (λ j p. sym (ap (_&& sectionIn B D .test (b, (d, tt)) (rest planeUnit (getD (map keyOf l) j 0)))
-            (le-leb (getD (map keyOf l) j 0 / 2099200) 1024 (parts-ok l valid focus j p)))) ∙
+        (le-leb (getD (map keyOf l) j 0 / 2099200) 1024 (parts-ok l valid focus j p)))) ∙
         sum-ext (mapIn B B D .test (1024, (b, (d, tt)))) (keyFits 1024 b d) (map keyOf l) (test-fits B B D 1024 b d) ∙
         sym (permitted-corners 1024 b d l (valid .corners))
 

@@ -1,6 +1,8 @@
 -- Inner: the rank of a cell.
 --   rankOf     a cell's distance and codes as one number
 --   Ranked     the least rank of the permitted cells
+--   RankedFor  the same for a wish by its steps above -32768, and that it fits
+--   foundAt    the cell and the distance of a rank, as an answer
 --   Askable    a map that is not empty, and a wish by its steps above -32768
 --   Keyed      the keys of a map that is not empty
 --   Located    the same, and from where to where the map lies on the three axes
@@ -10,16 +12,19 @@
 use mathlib.Core.Path.{_≡_}
 use mathlib.Core.Bool.{true}
 use mathlib.Core.List.{List, map}
-use Prim.Native.Nat.{ℕ, _+_, _*_, _≤_, _<_}
+use Prim.Native.Nat.{ℕ, _+_, _*_, _/_, _%_, _^_, _≤_, _<_}
 use lib.IntN.{ℤ}
 use lib.ListN.{length}
 use Rattle.meaning.specs.Numbers.{focus, first, second, Cell, Corner, cell, number}
 use Rattle.meaning.specs.Lists.{vertices, permitted, Valid}
 use Rattle.meaning.specs.Nearest.{distance}
 use Rattle.codes.specs.Keys.{keyOf, ofKey}
+use Rattle.codes.specs.Lift.{lowered}
 use Rattle.ranks.specs.Values.{axisCodes}
 use Rattle.ranks.specs.Extents.{Extends}
 use Rattle.nearest.specs.declared.Extents.{Extents}
+use Rattle.nearest.specs.declared.Found.{Found}
+use Rattle.nearest.specs.declared.Found.the-variants.{At}
 
 -- the distance, then focus, first shift and second shift, as one number
 abbrev pub rankOf : Cell → ℕ → ℕ → ℕ → ℕ
@@ -35,6 +40,12 @@ pub record Ranked (l : List Corner) (w : Cell) (r : ℕ) : Type 0 where
   pub is : r ≡ rankOf w focus-code first-code second-code
   pub least : (a b d : ℕ) → (a < axisCodes) × (b < axisCodes) × (d < axisCodes)
       → permitted l (cell (number a) (number b) (number d)) ≡ true → r ≤ rankOf w a b d
+
+abbrev pub RankedFor : List Corner → ℕ → ℕ → ℕ → ℕ → Type 0
+RankedFor l focus′ first′ second′ r = Ranked l (cell (lowered focus′) (lowered first′) (lowered second′)) r × (r < 2 ^ 62)
+
+abbrev pub foundAt : ℕ → Found
+foundAt r = At (number (r / 1048576 % 1024)) (number (r / 1024 % 1024)) (number (r % 1024)) (r / 1073741824)
 
 -- each number of a wish is so many steps above -32768
 abbrev pub Wished : ℕ → ℕ → ℕ → Type 0

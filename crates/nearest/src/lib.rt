@@ -2,15 +2,14 @@
 // `search` for the least rank among the cells that they permit.
 ghost use mathlib.Core.Path.{_≡_};
 ghost use mathlib.Core.List.{map};
-ghost use Prim.Native.Nat.{_+_, _/_, _%_, _<_, _≤_, _^_};
+ghost use Prim.Native.Nat.{_<_, _≤_, _^_};
 ghost use lib.ListN.{length};
-ghost use Rattle.meaning.specs.Numbers.{cell, number};
+ghost use Rattle.meaning.specs.Numbers.{cell};
 ghost use Rattle.meaning.specs.Lists.{vertices};
 ghost use Rattle.meaning.specs.Verdicts.{verdict};
 ghost use Rattle.codes.specs.Keys.{ofKey};
-ghost use Rattle.codes.specs.Lift.{lowered};
 ghost use Rattle.nearest.specs.Answer.{Answered};
-ghost use Rattle.nearest.specs.Ranks.{Ranked, Askable, Wished, Keyed, Located, Rooms, fewVertices};
+ghost use Rattle.nearest.specs.Ranks.{RankedFor, foundAt, Askable, Wished, Keyed, Located, Rooms, fewVertices};
 use meaning::MOST_VERTICES;
 use meaning::Verdict;
 use ranks::DISTANCE;
@@ -83,9 +82,7 @@ fn rank_of(
     requires { ⌜ Located (now keys) extents ⌝ }
     requires { ⌜ Wished focus first second ⌝ }
     requires { ⌜ (length (now keys) ≤ length (now room)) × (length (now keys) ≤ length (now work)) ⌝ }
-    ensures {
-        λ r. ⌜ Ranked (map ofKey (now (keys .entry))) (cell (lowered focus) (lowered first) (lowered second)) r × (r < 2 ^ 62) ⌝
-    }
+    ensures { λ r. ⌜ RankedFor (map ofKey (now (keys .entry))) focus first second r ⌝ }
 {
     let x = extents.focus;
     let y = extents.first;
@@ -110,9 +107,7 @@ fn rank_with_room(
 ) -> u64
     requires { ⌜ Askable (now list) focus first second ⌝ }
     requires { ⌜ Rooms (length (vertices (now list))) (now keys) (now room) (now work) ⌝ }
-    ensures {
-        λ r. ⌜ Ranked (vertices (now (list .entry))) (cell (lowered focus) (lowered first) (lowered second)) r × (r < 2 ^ 62) ⌝
-    }
+    ensures { λ r. ⌜ RankedFor (vertices (now (list .entry))) focus first second r ⌝ }
 {
     let n = keys::read(list, keys);
     let front = &keys[..n];
@@ -124,50 +119,30 @@ fn rank_with_room(
 fn rank_of_few(list: &[i16], focus: u32, first: u32, second: u32) -> u64
     requires { ⌜ Askable (now list) focus first second ⌝ }
     requires { ⌜ length (vertices (now list)) ≤ fewVertices ⌝ }
-    ensures {
-        λ r. ⌜ Ranked (vertices (now (list .entry))) (cell (lowered focus) (lowered first) (lowered second)) r × (r < 2 ^ 62) ⌝
-    }
+    ensures { λ r. ⌜ RankedFor (vertices (now (list .entry))) focus first second r ⌝ }
 {
     let mut keys = [0u32; SMALL];
     let mut room = [0u32; SMALL];
     let mut work = [0u32; SMALL];
-    rank_with_room(
-        list,
-        focus,
-        first,
-        second,
-        &mut keys,
-        &mut room,
-        &mut work,
-    )
+    rank_with_room(list, focus, first, second, &mut keys, &mut room, &mut work)
 }
 
 // The same with room of its own for as many vertices as a list may have.
 fn rank_of_many(list: &[i16], focus: u32, first: u32, second: u32) -> u64
     requires { ⌜ Askable (now list) focus first second ⌝ }
     requires { ⌜ length (vertices (now list)) ≤ 1024 ⌝ }
-    ensures {
-        λ r. ⌜ Ranked (vertices (now (list .entry))) (cell (lowered focus) (lowered first) (lowered second)) r × (r < 2 ^ 62) ⌝
-    }
+    ensures { λ r. ⌜ RankedFor (vertices (now (list .entry))) focus first second r ⌝ }
 {
     let mut keys = [0u32; MOST_VERTICES];
     let mut room = [0u32; MOST_VERTICES];
     let mut work = [0u32; MOST_VERTICES];
-    rank_with_room(
-        list,
-        focus,
-        first,
-        second,
-        &mut keys,
-        &mut room,
-        &mut work,
-    )
+    rank_with_room(list, focus, first, second, &mut keys, &mut room, &mut work)
 }
 
 // The cell and the distance of a rank.
 fn answer(rank: u64) -> Found
     requires { ⌜ rank < 2 ^ 62 ⌝ }
-    ensures { λ r. ⌜ r ≡ Found.At (number (rank / 1048576 % 1024)) (number (rank / 1024 % 1024)) (number (rank % 1024)) (rank / 1073741824) ⌝ }
+    ensures { λ r. ⌜ r ≡ foundAt rank ⌝ }
 {
     let codes = END as u64;
     let focus = keys::number_of((rank / FOCUS_PLACE % codes) as u32);

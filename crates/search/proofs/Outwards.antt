@@ -37,8 +37,7 @@ use Rattle.search.specs.Search.{Even, OneSide}
 less-rising : (base m : ℕ) (l : List ℕ) → From m l → Above base l → From (m - base) (lessBase base l)
 less-rising base m [] h a = tt
 less-rising base m (x ∷ l) h a =
-    let k : base ≤ x = a 0 (omega arith) in
-    (
+    let k : base ≤ x = a 0 (omega arith) in (
       omega (arith, h .0),
       from-less (suc (x - base)) (suc x - base) (lessBase base l) (omega arith) (less-rising base (suc x) l (h .1) (λ i p. a (suc i) (omega arith))),
     )

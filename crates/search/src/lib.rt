@@ -5,9 +5,8 @@ ghost use Prim.Native.Nat.{_<_, _≤_};
 ghost use lib.ListN.{length};
 ghost use Rattle.rising.specs.Merged.{From, norm};
 ghost use Rattle.rising.specs.Placed.{Front};
-ghost use Rattle.ranks.specs.Values.{axisCodes};
-ghost use Rattle.cells.specs.Cells.{Best, Rank, Turned, Run, Cut, Edge, high, rest, highAt, sectionIn, mapIn, planeUnit};
-ghost use Rattle.search.specs.Search.{Even, Scales, OneSide};
+ghost use Rattle.cells.specs.Cells.{Best, Rank, Run, Cut, Edge, high, rest, sectionIn, mapIn, planeUnit};
+ghost use Rattle.search.specs.Search.{Even, Scales, Above, Below, OneSide};
 use codes::PLANE;
 use ranks::END;
 use ranks::Scale;
@@ -61,13 +60,18 @@ fn section(keys: &[u32], place: usize, room: &mut [u32], work: &mut [u32]) -> us
 }
 
 // The least of best and the ranks of the cells just behind the planes from a place up, where all planes lie above the wish's focus.
-fn planes_above(keys: &[u32], place: usize, focus: Scale, first: Scale, second: Scale, best: u64) -> u64
+fn planes_above(
+    keys: &[u32],
+    place: usize,
+    focus: Scale,
+    first: Scale,
+    second: Scale,
+    best: u64,
+) -> u64
     requires { ⌜ From 0 (now keys) ⌝ }
     requires { ⌜ Scales focus first second ⌝ }
     requires { ⌜ Edge (high planeUnit) (now keys) (focus .wish) place ⌝ }
-    ensures {
-        λ r. ⌜ Best (Turned planeUnit focus (sectionIn first second) (now (keys .entry)) (highAt (high planeUnit) (now (keys .entry)) place) axisCodes 0) best r ⌝
-    }
+    ensures { λ r. ⌜ Best (Above focus first second (now (keys .entry)) place) best r ⌝ }
 {
     let mut found = best;
     let mut i = place;
@@ -88,13 +92,18 @@ fn planes_above(keys: &[u32], place: usize, focus: Scale, first: Scale, second: 
 }
 
 // The same of the planes below a place, where none lies above the wish's focus.
-fn planes_below(keys: &[u32], place: usize, focus: Scale, first: Scale, second: Scale, best: u64) -> u64
+fn planes_below(
+    keys: &[u32],
+    place: usize,
+    focus: Scale,
+    first: Scale,
+    second: Scale,
+    best: u64,
+) -> u64
     requires { ⌜ From 0 (now keys) ⌝ }
     requires { ⌜ Scales focus first second ⌝ }
     requires { ⌜ Edge (high planeUnit) (now keys) (focus .wish) place ⌝ }
-    ensures {
-        λ r. ⌜ Best (Turned planeUnit focus (sectionIn first second) (now (keys .entry)) 0 (highAt (high planeUnit) (now (keys .entry)) place) 0) best r ⌝
-    }
+    ensures { λ r. ⌜ Best (Below focus first second (now (keys .entry)) place) best r ⌝ }
 {
     let mut found = best;
     let mut i = place;
@@ -129,7 +138,14 @@ pub fn planes(
 {
     let place = upto(keys, 0, focus.wish, PLANE);
     let n = section(keys, place, room, work);
-    let at_wish = squares(&room[..n], 0, first, second, value_at(focus, focus.wish), best);
+    let at_wish = squares(
+        &room[..n],
+        0,
+        first,
+        second,
+        value_at(focus, focus.wish),
+        best,
+    );
     let above = planes_above(keys, place, focus, first, second, at_wish);
     planes_below(keys, place, focus, first, second, above)
 }

@@ -68,7 +68,6 @@ from-le m l h j k p q = go (ltb j k) refl
     go true e = omega (arith, from-lt m l h j k (ltb-true j k e) q)
     go false e = let s : j ≡ k = omega (arith, ltb-false j k e) in subst (λ (n : ℕ). getD l j 0 ≤ getD l n 0) s (omega arith)
 
-
 pub from-take : (m n : ℕ) (l : List ℕ) → From m l → From m (take n l)
 from-take m zero l h = tt
 from-take m (suc n) [] h = tt
@@ -298,4 +297,3 @@ high-end hi l i = go (ltb i (length l)) refl
     go : (b : Bool) → ltb i (length l) ≡ b → highAt hi l i ≤ 1024
     go true e = omega (arith, high-in hi l i (ltb-true i (length l) e))
     go false e = omega (arith, high-out hi l i (ltb-false i (length l) e))
-

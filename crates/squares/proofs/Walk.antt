@@ -96,7 +96,7 @@ module _ (unit : ℕ) (scale : Scale) (D : Depth) (l : List ℕ) (base : ℕ) (u
           best-same Own (Turned unit scale D l (highAt (high unit) l i) (highAt (high unit) l e) base) m r
           (λ q t. record { number = number; from = omega (arith, low-end); below = high-end; cell = t })
           (λ q t. subst (λ (n : ℕ). Part (λ k. eqb (high unit k) n) (rest unit) D l (base + value scale (behind (scale .wish) n)) q)
-              (this (t .number) (t .cell .at) (t .from) (t .below) (t .cell .member)) (t .cell))
+          (this (t .number) (t .cell .at) (t .from) (t .below) (t .cell .member)) (t .cell))
           (part-of own h)
         where
           Own : ℕ → Type 0

@@ -4,8 +4,8 @@ ghost use Prim.Native.Nat.{_<_, _≤_, _^_};
 ghost use lib.ListN.{length};
 ghost use Rattle.rising.specs.Merged.{lessBase};
 ghost use Rattle.ranks.specs.Values.{axisCodes, Sound};
-ghost use Rattle.cells.specs.Cells.{Best, Rank, Turned, Edge, high, lineIn, sectionIn, lineUnit, planeUnit};
-ghost use Rattle.squares.specs.Rising.{Rising, RunTo};
+ghost use Rattle.cells.specs.Cells.{Best, Rank, Edge, high, sectionIn, planeUnit};
+ghost use Rattle.squares.specs.Rising.{Rising, RunTo, BehindLines};
 use cells::joint_line;
 use cells::own_line;
 use codes::LINE;
@@ -57,9 +57,7 @@ fn own_lines(pairs: &[u32], base: u32, first: Scale, second: Scale, rank: u64, b
     requires { ⌜ Rising base (now pairs) ⌝ }
     requires { ⌜ Sound first × Sound second ⌝ }
     requires { ⌜ rank < 2 ^ 50 ⌝ }
-    ensures {
-        λ r. ⌜ Best (Turned lineUnit first (lineIn second) (lessBase base (now (pairs .entry))) 0 axisCodes rank) best r ⌝
-    }
+    ensures { λ r. ⌜ Best (BehindLines first second (lessBase base (now (pairs .entry))) rank) best r ⌝ }
 {
     let mut found = best;
     let mut i = 0;

@@ -49,7 +49,7 @@ cast-is-set : tie.Need-cast-is-set Inv-loop μ-loop
 cast-is-set c = search needs
 
 is-set-requires : tie.Need-is-set-requires Inv-loop μ-loop
-is-set-requires c κs = 
+is-set-requires c κs =
     let l = c .before .before in
     let s = l .before .before .before in
     omega (
@@ -66,7 +66,7 @@ loop-less : tie.Need-loop-less Inv-loop μ-loop
 loop-less c = search needs
 
 loop-again : tie.Need-loop-again Inv-loop μ-loop
-loop-again c = 
+loop-again c =
     let n = c .before .before .before in
     let l = n .before .before in
     let s = l .before .before .before in

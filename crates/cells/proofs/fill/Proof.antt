@@ -17,8 +17,6 @@ Inv-loop pairs base row₀ i₀ row i = Tells (take i (numbersOf base pairs)) ro
 abbrev μ-loop : tie.MeasureT-loop
 μ-loop pairs base row₀ i₀ row i = length pairs - i
 
-
-
 loop-holds : tie.Need-loop-holds Inv-loop μ-loop
 loop-holds c = c .before .before .pre .1
 
@@ -29,7 +27,7 @@ cast-toggle : tie.Need-cast-toggle Inv-loop μ-loop
 cast-toggle c = search needs
 
 toggle-requires : tie.Need-toggle-requires Inv-loop μ-loop
-toggle-requires c κs = 
+toggle-requires c κs =
     let l = c .before .before .before in
     let s = l .before .before .before in
     omega (
@@ -46,7 +44,7 @@ loop-less : tie.Need-loop-less Inv-loop μ-loop
 loop-less c = search needs
 
 loop-again : tie.Need-loop-again Inv-loop μ-loop
-loop-again c = 
+loop-again c =
     let x = c .before .before in
     let l = x .before .before .before .before in
     let s = l .before .before .before in
@@ -60,7 +58,7 @@ same-length : tie.Need-same-length Inv-loop μ-loop
 same-length c = search needs
 
 returns : tie.Need-returns Inv-loop μ-loop
-returns c = 
+returns c =
     let l = c .before in
     let s = l .before .before .before in
     tells-all (numbersOf (s .args .base) (s .args .pairs .now)) (l .loop .row) (l .loop .i)

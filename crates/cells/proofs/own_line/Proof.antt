@@ -25,7 +25,7 @@ lesser-requires : tie.Need-lesser-requires
 lesser-requires c κs = search needs
 
 returns-2 : tie.Need-returns-2
-returns-2 c = 
+returns-2 c =
     let o = c .before .before .before in
     let s = o .before .before .before in
     line-here (s .pre .1 .1 .0) (sym (c .before .before .if2 .taken) ∙ o .odd-upto .ensures) (omega (arith, c .lesser .ensures, c .before .value-at .ensures .is))
@@ -34,7 +34,7 @@ behind-each-requires : tie.Need-behind-each-requires
 behind-each-requires c κs = search needs
 
 returns-3 : tie.Need-returns-3
-returns-3 c = 
+returns-3 c =
     let e = c .before in
     let o = e .before in
     let s = o .before .before .before in

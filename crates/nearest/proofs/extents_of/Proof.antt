@@ -15,7 +15,7 @@ extend-requires-3 : tie.Need-extend-requires-3
 extend-requires-3 c κs = let s = c .before .before .before in keyed-parts (s .args .keys .now) (s .pre) second
 
 returns : tie.Need-returns
-returns c = 
+returns c =
     let b = c .before in
     let a = b .before in
     record { keyed = a .before .before .pre; on-focus = a .extend .ensures; on-first = b .extend2 .ensures; on-second = c .extend3 .ensures }

@@ -108,11 +108,10 @@ bring-requires-3 : tie.Need-bring-requires-3
 bring-requires-3 c κs = let h = begins (c .before .before) .pre .0 in ((located-wide h .2, h .on-second .end), (omega arith, omega arith, omega arith))
 
 planes-requires : tie.Need-planes-requires
-planes-requires c κs = 
+planes-requires c κs =
     let d = c .before .before in
     let s = begins (d .before .before .before) in
-    let k = s .pre .0 .keyed in
-    (
+    let k = s .pre .0 .keyed in (
       keyed-rise (s .args .keys .now) k,
       (
         keyed-even (d .before .bring2 .result) (d .bring3 .result) (s .args .keys .now) k,
@@ -152,7 +151,7 @@ same-length-2 c = search needs
 
 returns : tie.Need-returns
 unfolding weight
-returns c = 
+returns c =
     let p = searched (c .before .before) in
     let b = brought p in
     let s = begun p in

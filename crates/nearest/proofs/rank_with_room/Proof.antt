@@ -49,7 +49,7 @@ extents-of-requires : tie.Need-extents-of-requires
 extents-of-requires c κs = let x = c .before .before .before in keyed (corners (start x)) (keys x) (front x) (start x .pre .0 .valid) (start x .pre .0 .some)
 
 rank-of-requires : tie.Need-rank-of-requires
-rank-of-requires c κs = 
+rank-of-requires c κs =
     let x = c .before .before .before .before .before .before in
     let s = start x in
     (c .before .before .extents-of .ensures, (s .pre .0 .wish, (omega (arith, count x, s .pre .1 .room-fits), omega (arith, count x, s .pre .1 .work-fits))))
@@ -64,11 +64,10 @@ same-length-3 : tie.Need-same-length-3
 same-length-3 c = search needs
 
 returns : tie.Need-returns
-returns c = 
+returns c =
     let r = c .before .before .before .before in
     let x = r .before .before .before .before .before .before .before in
-    let s = start x in
-    (
+    let s = start x in (
       subst (λ (l : List Corner). Ranked l (cell (lowered (s .args .focus)) (lowered (s .args .first)) (lowered (s .args .second))) (r .rank-of .result))
           (keyed-corners (corners s) (keys x) (front x) (s .pre .0 .valid)) (r .rank-of .ensures .0),
       r .rank-of .ensures .1,

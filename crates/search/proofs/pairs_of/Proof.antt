@@ -53,7 +53,7 @@ slice-aggregate-cancel : tie.Need-slice-aggregate-cancel Inv-loop μ-loop
 slice-aggregate-cancel c = sym (length-take-le _ _ (within (c .before .before)))
 
 cancel-requires : tie.Need-cancel-requires Inv-loop μ-loop
-cancel-requires c κs = 
+cancel-requires c κs =
     let l = c .before .before .before in
     let s = l .before .before .before .before in
     omega (arith, length-take (l .loop .n) (l .loop .room), l .loop .inv .read, s .pre .1)
@@ -65,7 +65,7 @@ same-length-2 : tie.Need-same-length-2 Inv-loop μ-loop
 same-length-2 c = search needs
 
 returns : tie.Need-returns Inv-loop μ-loop
-returns c = 
+returns c =
     let x = c .before .before .before .before in
     let e = x .before .before .before in
     let l = e .before in

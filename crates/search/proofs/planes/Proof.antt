@@ -48,11 +48,10 @@ value-at-requires : tie.Need-value-at-requires
 value-at-requires c κs = let s = start (begun (c .before .before .before .before .before)) in (s .pre .1 .1 .0 .on-focus, s .pre .1 .1 .0 .on-focus .code)
 
 squares-requires : tie.Need-squares-requires
-squares-requires c κs = 
+squares-requires c κs =
     let x = c .before .before .before .before .before .before in
     let u = begun x in
-    let s = start u in
-    (
+    let s = start u in (
       section-rising (s .args .keys .now) (u .upto .result) (room x) (x .section .result) (x .section .ensures),
       ((s .pre .1 .1 .0 .on-first, s .pre .1 .1 .0 .on-second), omega (arith, c .value-at .ensures .small)),
     )
@@ -70,7 +69,7 @@ same-length-2 : tie.Need-same-length-2
 same-length-2 c = search needs
 
 returns : tie.Need-returns
-returns c = 
+returns c =
     let a = c .before in
     let q = a .before in
     let v = q .before in

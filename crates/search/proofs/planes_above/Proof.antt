@@ -35,9 +35,8 @@ ends : (r : tie.After-run-end Inv-loop μ-loop)
 ends r = run-on-list planeUnit (start (turn r) .args .keys .now) (turn r .loop .i) (r .run-end .result) (r .run-end .ensures)
 
 loop-holds : tie.Need-loop-holds Inv-loop μ-loop
-loop-holds c = 
-    let s = c .before in
-    (
+loop-holds c =
+    let s = c .before in (
       record {
         cut = edge-cut (high planeUnit) (s .args .keys .now) (s .args .focus .wish) (s .args .place) (s .pre .1 .1);
         order = omega arith;
@@ -53,7 +52,7 @@ shared-slice-read-number : tie.Need-shared-slice-read-number Inv-loop μ-loop
 shared-slice-read-number c = search needs
 
 returns : tie.Need-returns Inv-loop μ-loop
-returns c = 
+returns c =
     let l = c .before .before .before in
     passed-codes (omega arith) (start l .pre .0) (l .loop .inv .0) (c .before .before .loop-test .taken) (c .if1 .taken)
 
@@ -61,7 +60,7 @@ value-behind-requires : tie.Need-value-behind-requires Inv-loop μ-loop
 value-behind-requires c κs = (start (c .before .before .before) .pre .1 .0 .on-focus, c .if1 .left)
 
 returns-2 : tie.Need-returns-2 Inv-loop μ-loop
-returns-2 c = 
+returns-2 c =
     let v = c .before in
     let i = v .before .before .before in
     let l = i .before in
@@ -72,7 +71,7 @@ returns-2 c =
     (s .pre .1 .0 .on-focus) h (s .pre .1 .1 .beyond (l .loop .i) (l .loop .inv .1) h) (omega (arith, v .value-behind .ensures .is, c .if2 .taken)))
 
 run-end-requires : tie.Need-run-end-requires Inv-loop μ-loop
-run-end-requires c κs = 
+run-end-requires c κs =
     let i = c .before .before .before .before in
     let s = start (i .before) in
     (omega arith, (from-rising (s .args .keys .now) (s .pre .0), i .loop-test .taken))
@@ -90,16 +89,15 @@ part-squares-end : tie.Need-part-squares-end Inv-loop μ-loop
 part-squares-end c = omega (arith, ends c .0 .within)
 
 mul-squares-2 : tie.Need-mul-squares-2 Inv-loop μ-loop
-mul-squares-2 c = 
+mul-squares-2 c =
     let k = c .before .before .before .before .before in
     let l = k .before .before in
     omega (arith, div-mul-le-self (getD (start l .args .keys .now) (l .loop .i) 0) planeUnit, k .shared-slice-known2 .given (l .loop .i))
 
 squares-requires : tie.Need-squares-requires Inv-loop μ-loop
-squares-requires c κs = 
+squares-requires c κs =
     let r = c .before in
-    let s = start (turn r) in
-    (
+    let s = start (turn r) in (
       plane-rising planeUnit (s .args .keys .now) (turn r .loop .i) (r .run-end .result) (s .pre .0) (ends r .0),
       ((s .pre .1 .0 .on-first, s .pre .1 .0 .on-second), omega (arith, r .before .before .value-behind .ensures .small)),
     )
@@ -108,14 +106,13 @@ loop-less : tie.Need-loop-less Inv-loop μ-loop
 loop-less c = let r = c .before .before in omega (arith, ends r .0 .some, ends r .0 .within)
 
 loop-again : tie.Need-loop-again Inv-loop μ-loop
-loop-again c = 
+loop-again c =
     let r = c .before .before in
     let v = r .before .before in
     let l = turn r in
     let s = start l in
     let D = sectionIn (s .args .first) (s .args .second) in
-    let run = ends r .0 in
-    (
+    let run = ends r .0 in (
       passed-on (omega arith) (s .pre .0) (l .loop .inv .0) run (ends r .1) (v .before .if1 .left)
           (subst (λ (k : ℕ). Best (Rank D (map (rest planeUnit) (runOf (s .args .keys .now) (l .loop .i) (r .run-end .result))) k) (l .loop .found) (c .squares .result))
           (v .value-behind .ensures .is ∙ omega arith)

@@ -41,9 +41,8 @@ same r =
     sym (run .same (turn r .loop .i - 1) (omega (arith, run .some)) (omega (arith, run .some)))
 
 loop-holds : tie.Need-loop-holds Inv-loop μ-loop
-loop-holds c = 
-    let s = c .before in
-    (
+loop-holds c =
+    let s = c .before in (
       record {
         cut = edge-cut (high planeUnit) (s .args .keys .now) (s .args .focus .wish) (s .args .place) (s .pre .1 .1);
         order = omega arith;
@@ -62,13 +61,13 @@ shared-slice-read-number : tie.Need-shared-slice-read-number Inv-loop μ-loop
 shared-slice-read-number c = let l = c .before .before in omega (arith, l .loop .inv .0 .cut .within, c .before .loop-test .taken)
 
 value-behind-requires : tie.Need-value-behind-requires Inv-loop μ-loop
-value-behind-requires c κs = 
+value-behind-requires c κs =
     let l = c .before .before in
     let s = start l in
     (s .pre .1 .0 .on-focus, omega (arith, low l (c .before .loop-test .taken), s .pre .1 .0 .on-focus .code))
 
 returns : tie.Need-returns Inv-loop μ-loop
-returns c = 
+returns c =
     let v = c .before in
     let i = v .before .before in
     let l = i .before in
@@ -79,7 +78,7 @@ returns c =
     (s .pre .1 .0 .on-focus) h (l .loop .inv .0 .cut .within) (low l h) (omega (arith, v .value-behind .ensures .is, c .if1 .taken)))
 
 run-start-requires : tie.Need-run-start-requires Inv-loop μ-loop
-run-start-requires c κs = 
+run-start-requires c κs =
     let i = c .before .before .before in
     let l = i .before in
     (omega arith, (start l .pre .0, (i .loop-test .taken, l .loop .inv .0 .cut .within)))
@@ -97,17 +96,16 @@ part-squares-end : tie.Need-part-squares-end Inv-loop μ-loop
 part-squares-end c = omega (arith, c .run-start .ensures .0 .within)
 
 mul-squares-2 : tie.Need-mul-squares-2 Inv-loop μ-loop
-mul-squares-2 c = 
+mul-squares-2 c =
     let k = c .before .before .before .before in
     let l = k .before .before in
     omega (arith, div-mul-le-self (getD (start l .args .keys .now) (l .loop .i - 1) 0) planeUnit, k .shared-slice-known2 .given (l .loop .i - 1))
 
 squares-requires : tie.Need-squares-requires Inv-loop μ-loop
-squares-requires c κs = 
+squares-requires c κs =
     let r = c .before in
     let l = turn r in
-    let s = start l in
-    (
+    let s = start l in (
       subst (λ (n : ℕ). Rising (n * planeUnit) (runOf (s .args .keys .now) (r .run-start .result) (l .loop .i))) (same r)
           (plane-rising planeUnit (s .args .keys .now) (r .run-start .result) (l .loop .i) (s .pre .0) (r .run-start .ensures .0)),
       ((s .pre .1 .0 .on-first, s .pre .1 .0 .on-second), omega (arith, r .before .before .value-behind .ensures .small)),
@@ -117,7 +115,7 @@ loop-less : tie.Need-loop-less Inv-loop μ-loop
 loop-less c = let r = c .before .before in omega (arith, r .run-start .ensures .0 .some)
 
 loop-again : tie.Need-loop-again Inv-loop μ-loop
-loop-again c = 
+loop-again c =
     let r = c .before .before in
     let v = r .before .before in
     let l = turn r in
@@ -126,8 +124,7 @@ loop-again c =
     let D = sectionIn (s .args .first) (s .args .second) in
     let run = r .run-start .ensures .0 in
     let n = same r in
-    let b = ap (λ m. value (s .args .focus) (behind (s .args .focus .wish) m)) n in
-    (
+    let b = ap (λ m. value (s .args .focus) (behind (s .args .focus .wish) m)) n in (
       sunk-on (omega arith) (s .pre .0) (l .loop .inv .0) run (r .run-start .ensures .1)
           (omega (arith, n, low l (v .before .before .loop-test .taken), s .pre .1 .0 .on-focus .code))
           (subst (λ (k : ℕ). Best (Rank D (map (rest planeUnit) (runOf (s .args .keys .now) j (l .loop .i))) k) (l .loop .found) (c .squares .result))
@@ -139,7 +136,7 @@ loop-again c =
     )
 
 returns-2 : tie.Need-returns-2 Inv-loop μ-loop
-returns-2 c = 
+returns-2 c =
     let l = c .before in
     let s = start l in
     let z : l .loop .i ≡ 0 = omega (arith, c .loop-test .left) in

@@ -29,7 +29,7 @@ part-pairs-of-end : tie.Need-part-pairs-of-end
 part-pairs-of-end c = search needs
 
 pairs-of-requires : tie.Need-pairs-of-requires
-pairs-of-requires c κs = 
+pairs-of-requires c κs =
     let s = c .before .before .before .before .before .before .before in
     let n = length-take (length (s .args .keys .now) - s .args .place) (drop (s .args .place) (s .args .keys .now)) in
     (omega (arith, n, s .pre .1 .0), omega (arith, n, s .pre .1 .1))
@@ -41,7 +41,7 @@ same-length-2 : tie.Need-same-length-2
 same-length-2 c = search needs
 
 returns : tie.Need-returns
-returns c = 
+returns c =
     let x = c .before .before .before .before in
     let s = x .before .before .before .before .before .before .before .before in
     let whole =
@@ -53,7 +53,7 @@ slice-aggregate-pairs-of : tie.Need-slice-aggregate-pairs-of
 slice-aggregate-pairs-of c = let s = c .before .before .before .before .before in sym (length-take-le (s .args .place) (s .args .keys .now) (s .pre .0))
 
 pairs-of-requires-2 : tie.Need-pairs-of-requires-2
-pairs-of-requires-2 c κs = 
+pairs-of-requires-2 c κs =
     let s = c .before .before .before .before .before .before .before in
     let n = length-take (s .args .place) (s .args .keys .now) in
     (omega (arith, n, s .pre .1 .0), omega (arith, n, s .pre .1 .1))

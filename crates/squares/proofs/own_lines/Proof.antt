@@ -43,7 +43,7 @@ ended r =
     omega (arith, r .run-end .ensures .run .within, less-long (s .args .base) (s .args .pairs .now))
 
 loop-holds : tie.Need-loop-holds Inv-loop μ-loop
-loop-holds c = 
+loop-holds c =
     let s = c .before in
     record {
       cut = cut-none (high lineUnit) (list s) 0 (omega arith);
@@ -61,7 +61,7 @@ sub-line : tie.Need-sub-line Inv-loop μ-loop
 sub-line c = let l = c .before .before in omega (arith, start l .pre .0 .above (l .loop .i) (c .before .loop-test .taken))
 
 returns : tie.Need-returns Inv-loop μ-loop
-returns c = 
+returns c =
     let l = c .before .before .before in
     let h = c .before .before .loop-test .taken in
     passed-codes (omega arith) (start l .pre .0 .rising) (l .loop .inv) (inside l h) (omega (arith, number l h, c .if1 .taken))
@@ -88,11 +88,10 @@ part-own-line-end : tie.Need-part-own-line-end Inv-loop μ-loop
 part-own-line-end c = omega (arith, ended (c .before))
 
 own-line-requires : tie.Need-own-line-requires Inv-loop μ-loop
-own-line-requires c κs = 
+own-line-requires c κs =
     let r = c .before .before in
     let l = r .before .before .before .before in
-    let s = start l in
-    (
+    let s = start l in (
       above-run (s .args .base) (s .args .pairs .now) (l .loop .i) (r .run-end .result) (ended r) (s .pre .0 .above),
       (
         subst (λ (m : List ℕ). Once (map (rest lineUnit) m)) (sym (less-run (s .args .base) (s .args .pairs .now) (l .loop .i) (r .run-end .result)))
@@ -105,7 +104,7 @@ loop-less : tie.Need-loop-less Inv-loop μ-loop
 loop-less c = let r = c .before .before .before in omega (arith, ended r, r .run-end .ensures .run .some)
 
 loop-again : tie.Need-loop-again Inv-loop μ-loop
-loop-again c = 
+loop-again c =
     let v = c .before .before in
     let r = v .before in
     let l = r .before .before .before .before in
@@ -120,7 +119,7 @@ loop-again c =
     (less-run (s .args .base) (s .args .pairs .now) (l .loop .i) (r .run-end .result)) (c .own-line .ensures)))
 
 returns-2 : tie.Need-returns-2 Inv-loop μ-loop
-returns-2 c = 
+returns-2 c =
     let l = c .before in
     let s = start l in
     passed-all (omega arith) (s .pre .0 .rising) (l .loop .inv) (omega (arith, less-long (s .args .base) (s .args .pairs .now), c .loop-test .left))

@@ -46,7 +46,7 @@ div-low : tie.Need-div-low Inv-loop μ-loop
 div-low c = search needs
 
 mul-low-2 : tie.Need-mul-low-2 Inv-loop μ-loop
-mul-low-2 c = 
+mul-low-2 c =
     let s = c .before in
     omega (arith, div-mul-le-self (getD (s .args .list .now) (s .args .i) 0 - s .args .base) (s .args .unit), c .shared-slice-known .given (s .args .i))
 
@@ -54,7 +54,7 @@ add-e : tie.Need-add-e Inv-loop μ-loop
 add-e c = search needs
 
 loop-holds : tie.Need-loop-holds Inv-loop μ-loop
-loop-holds c = 
+loop-holds c =
     let s = c .before in
     run-begins (s .args .unit) (s .pre .0) (s .pre .1 .0 .rising) (omega (arith, less-long (s .args .base) (s .args .list .now), s .pre .1 .1))
 
@@ -68,14 +68,14 @@ sub-if1 : tie.Need-sub-if1 Inv-loop μ-loop
 sub-if1 c = let s = c .before .before .before .before in omega (arith, s .pre .1 .0 .above (c .before .before .loop .e) (c .before .loop-test .taken))
 
 sub-if1-2 : tie.Need-sub-if1-2 Inv-loop μ-loop
-sub-if1-2 c = 
+sub-if1-2 c =
     let l = c .before .before in
     let s = start l in
     run-over (s .args .unit) (s .pre .0) (s .pre .1 .0 .rising) (l .loop .inv) _ _ (first l) (next l (c .before .loop-test .taken))
     (inside l (c .before .loop-test .taken))
 
 returns : tie.Need-returns Inv-loop μ-loop
-returns c = 
+returns c =
     let l = c .before .before .before in
     let s = start l in
     let h = c .before .before .loop-test .taken in
@@ -91,14 +91,14 @@ loop-less : tie.Need-loop-less Inv-loop μ-loop
 loop-less c = search needs
 
 loop-again : tie.Need-loop-again Inv-loop μ-loop
-loop-again c = 
+loop-again c =
     let l = c .before .before .before in
     let s = start l in
     let h = c .before .before .loop-test .taken in
     run-goes-on (s .args .unit) (s .pre .0) (s .pre .1 .0 .rising) (l .loop .inv) _ _ (first l) (next l h) (inside l h) (c .if1 .left)
 
 returns-2 : tie.Need-returns-2 Inv-loop μ-loop
-returns-2 c = 
+returns-2 c =
     let l = c .before in
     let s = start l in
     record {

@@ -26,7 +26,7 @@ placed : (u : tie.After-upto) → u .upto .result ≤ length (start u .args .pai
 placed u = omega (arith, u .upto .ensures .within, less-long (start u .args .base) (start u .args .pairs .now))
 
 returns : tie.Need-returns
-returns c = 
+returns c =
     let s = c .before .before in
     rank-stop (sectionIn (s .args .first) (s .args .second)) (list s) (s .args .rank) (s .args .best) (c .if1 .taken)
 
@@ -43,10 +43,9 @@ slice-aggregate-joint-line : tie.Need-slice-aggregate-joint-line
 slice-aggregate-joint-line c = let u = c .before .before in sym (length-take-le (u .upto .result) (start u .args .pairs .now) (placed u))
 
 joint-line-requires : tie.Need-joint-line-requires
-joint-line-requires c κs = 
+joint-line-requires c κs =
     let u = c .before .before in
-    let s = start u in
-    (
+    let s = start u in (
       above-take (s .args .base) (s .args .pairs .now) (u .upto .result) (s .pre .0 .above),
       (s .pre .1 .0 .1, omega (arith, s .pre .1 .1, c .before .value-at .ensures .small)),
     )
@@ -55,7 +54,7 @@ own-lines-requires : tie.Need-own-lines-requires
 own-lines-requires c κs = search needs
 
 returns-2 : tie.Need-returns-2
-returns-2 c = 
+returns-2 c =
     let j = c .before in
     let v = j .before .before in
     let u = v .before in

@@ -47,7 +47,7 @@ shared-slice-read-if1 : tie.Need-shared-slice-read-if1 Inv-loop μ-loop
 shared-slice-read-if1 c = search needs
 
 sub-if1 : tie.Need-sub-if1 Inv-loop μ-loop
-sub-if1 c = 
+sub-if1 c =
     let l = c .before .before in
     let s = l .before in
     omega (arith, s .pre .1 .above (l .loop .start + (l .loop .end - l .loop .start) / 2) (omega (arith, l .loop .inv .1, c .before .loop-test .taken)))
@@ -59,7 +59,7 @@ loop-less : tie.Need-loop-less Inv-loop μ-loop
 loop-less c = search needs
 
 loop-again : tie.Need-loop-again Inv-loop μ-loop
-loop-again c = 
+loop-again c =
     let l = c .before .before .before in
     (split-up (l .before .pre .1 .rising) _ (l .loop .inv .0) (omega arith) (omega arith) (omega (arith, there (c .before), c .if1 .taken)), l .loop .inv .1)
 
@@ -67,15 +67,14 @@ loop-less-2 : tie.Need-loop-less-2 Inv-loop μ-loop
 loop-less-2 c = search needs
 
 loop-again-2 : tie.Need-loop-again-2 Inv-loop μ-loop
-loop-again-2 c = 
-    let l = c .before .before .before in
-    (
+loop-again-2 c =
+    let l = c .before .before .before in (
       split-down (l .before .pre .1 .rising) _ (l .loop .inv .0) (omega arith) (omega arith) (omega (arith, there (c .before), c .if1 .left)),
       omega (arith, l .loop .inv .1),
     )
 
 returns : tie.Need-returns Inv-loop μ-loop
-returns c = 
+returns c =
     let l = c .before in
     let s = l .before in
     let e : l .loop .end ≡ l .loop .start = omega (arith, l .loop .inv .0 .order, c .loop-test .left) in
