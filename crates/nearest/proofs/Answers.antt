@@ -31,6 +31,6 @@ not-empty ns e h = by (length ns) (length (vertices ns)) (length-vertices ns) (v
     by zero n p q k = absurd (k refl)
     by (suc m) n p q k = omega arith
 
-pub answered : (ns : List ℤ) (w : Cell) (r : ℕ) → verdict ns ≡ Valid → Ranked ns w r
+pub answered : (ns : List ℤ) (w : Cell) (r : ℕ) → verdict ns ≡ Valid → Ranked (vertices ns) w r
     → Answered ns w (At (number (r / 1048576 % 1024)) (number (r / 1024 % 1024)) (number (r % 1024)) (r / 1073741824))
-answered ns w r e h = let n = ranked-nearest ns (valid-list ns e) w r h in answered-cell ns w (ap passes e) _ _ _ _ (n .0) (n .1)
+answered ns w r e h = let n = ranked-nearest (vertices ns) (valid-list ns e) w r h in answered-cell ns w (ap passes e) _ _ _ _ (n .0) (n .1)

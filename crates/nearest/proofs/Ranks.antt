@@ -2,24 +2,24 @@
 --   test-fits           the search tests what a key's parts say
 --   by-codes            a permitted cell by its codes counted from 0
 --   within-codes, some-cell     of a valid list: its cells lie within the codes; one that is not empty permits a cell
---   of-keys             the least rank of a list of keys is that of an equal one
+--   parts-ok, even-keys     the parts of a map's keys; its keys are even along the focus
 --   ranked              the least rank that the search finds, and what the ways to the scales' codes count, is the least rank of the permitted cells
 --   ranked-nearest      the least rank is the nearest cell and its distance
 -- Assumes nothing.
 use mathlib.Core.Path.{_≡_, refl, sym, _∙_, ap, ap₂, subst}
 use mathlib.Core.Logic.{_⊎_, inl, inr}
-use mathlib.Core.Bool.{true, false, _&&_, _||_, and-true}
+use mathlib.Core.Bool.{Bool, true, false, _&&_, _||_, and-true}
 use mathlib.Core.List.{List, [], _∷_, map}
-use Prim.Native.Nat.{ℕ, _+_, _-_, _*_, _/_, _%_, _≤_, _<_}
+use Prim.Native.Nat.{ℕ, _+_, _-_, _*_, _/_, _%_, _^_, _≤_, _<_}
 use native.Mathlib.Nat.{mul-add}
 use native.Mathlib.Omega.{arith}
-use borrow.Author.Tests.{ltb-true, le-ltb}
+use borrow.Author.Tests.{ltb-true, le-ltb, le-leb}
 use lib.Dec.{leb, ltb}
 use lib.IntN.{ℤ}
 use lib.Signed.{leZ}
-use lib.ListN.{length}
-use Rattle.meaning.specs.Numbers.{focus, first, second, Cell, Corner, cell, isCode, isCell, lowest, number, steps}
-use Rattle.meaning.specs.Lists.{vertices, permitted, Valid}
+use lib.ListN.{length, getD}
+use Rattle.meaning.specs.Numbers.{Axis, focus, first, second, Cell, Corner, cell, isCode, isCell, lowest, number, steps}
+use Rattle.meaning.specs.Lists.{permitted, Valid}
 use Rattle.meaning.specs.Nearest.{weight, distance, lower, Nearest}
 use Rattle.meaning.proofs.Parity.{sum, sum-ext}
 use Rattle.meaning.proofs.Integers.{number-steps, number-isCode, number-lt, number-le, and-left, and-right}
@@ -27,10 +27,13 @@ use Rattle.meaning.proofs.Maps.{valid-within, some-permitted}
 use Rattle.codes.specs.Keys.{keyOf, restOf, lastOf}
 use Rattle.codes.specs.Lift.{lowered}
 use Rattle.codes.proofs.Tests.{lex}
-use Rattle.keys.specs.Parts.{keyFits}
-use Rattle.keys.proofs.Corners.{permitted-corners}
+use Rattle.keys.specs.Parts.{KeyOk, partOn, keyFits}
+use Rattle.keys.proofs.Corners.{part-ok, keys-ok, permitted-corners}
+use Rattle.rising.proofs.Written.{all-at}
 use Rattle.ranks.specs.Values.{apart, value, way, Brought}
-use Rattle.search.specs.Search.{Best, Depth, Rank, mapIn}
+use Rattle.cells.specs.Cells.{Best, Depth, Rank, mapIn, sectionIn, planeUnit, rest}
+use Rattle.search.specs.Search.{Even}
+use Rattle.squares.proofs.Runs.{sum-places}
 use Rattle.nearest.specs.Ranks.{rankOf, Ranked}
 use Rattle.ranks.specs.declared.Scale.{Scale}
 use Rattle.ranks.proofs.Costs.{value-small}
@@ -92,14 +95,31 @@ some-cell (v ∷ l) valid h = some-permitted v l (valid .rising)
 
 -- ---- from the search to the least rank
 
-pub of-keys : {D : Depth} {k l : List ℕ} {none r : ℕ} → k ≡ l → Best (Rank D k 0) none r → Best (Rank D l 0) none r
-of-keys {D} {k} {l} {none} {r} e b = subst (λ (m : List ℕ). Best (Rank D m 0) none r) e b
+-- the parts of the keys of corners are at most 1024
+pub parts-ok : (l : List Corner) → Valid l → (axis : Axis) (i : ℕ) → i < length (map keyOf l) → partOn axis (getD (map keyOf l) i 0) ≤ 1024
+parts-ok l valid axis i h = part-ok axis (getD (map keyOf l) i 0) (all-at KeyOk (map keyOf l) (keys-ok l (valid .corners)) i h)
 
-module _ (ns : List ℤ) (valid : Valid (vertices ns)) {u v t : ℕ} {A B D : Scale} {la ha lb hb ld hd : ℕ}
+-- a map has no cell at the end of the focus, so its keys are even along it
+pub even-keys : (B D : Scale) (l : List Corner) → Valid l → Even (sectionIn B D) (map keyOf l)
+even-keys B D l valid (b, (d, _)) = go (permitted l (cellAt 1024 b d)) refl
+  where
+    whole : sum (λ k. sectionIn B D .test (b, (d, tt)) (rest planeUnit k)) (map keyOf l) ≡ permitted l (cellAt 1024 b d)
+    whole =
+        sum-places (λ k. sectionIn B D .test (b, (d, tt)) (rest planeUnit k)) (mapIn B B D .test (1024, (b, (d, tt)))) (map keyOf l)
+        (λ j p. sym (ap (_&& sectionIn B D .test (b, (d, tt)) (rest planeUnit (getD (map keyOf l) j 0)))
+        (le-leb (getD (map keyOf l) j 0 / 2099200) 1024 (parts-ok l valid focus j p)))) ∙
+        sum-ext (mapIn B B D .test (1024, (b, (d, tt)))) (keyFits 1024 b d) (map keyOf l) (test-fits B B D 1024 b d) ∙
+        sym (permitted-corners 1024 b d l (valid .corners))
+
+    go : (t : Bool) → permitted l (cellAt 1024 b d) ≡ t → sum (λ k. sectionIn B D .test (b, (d, tt)) (rest planeUnit k)) (map keyOf l) ≡ false
+    go true e = absurd (omega (arith, within-codes l valid 1024 b d e .0))
+    go false e = whole ∙ e
+
+module _ (l : List Corner) (valid : Valid l) {u v t : ℕ} {A B D : Scale} {la ha lb hb ld hd : ℕ}
     (brought-a : Brought u la ha (weight focus) 1048576 A)
     (brought-b : Brought v lb hb (weight first) 1024 B)
     (brought-d : Brought t ld hd (weight second) 1 D)
-    (inside : (a b d : ℕ) → permitted (vertices ns) (cellAt a b d) ≡ true → (la ≤ a) × (a < ha) × (lb ≤ b) × (b < hb) × (ld ≤ d) × (d < hd))
+    (inside : (a b d : ℕ) → permitted l (cellAt a b d) ≡ true → (la ≤ a) × (a < ha) × (lb ≤ b) × (b < hb) × (ld ≤ d) × (d < hd))
   where
     abbrev wish : Cell
     wish = cell (lowered u) (lowered v) (lowered t)
@@ -115,7 +135,7 @@ module _ (ns : List ℤ) (valid : Valid (vertices ns)) {u v t : ℕ} {A B D : Sc
         ap (s .weight *_) (h .along c p q) ∙
         mul-add (s .weight) (apart z (s .wish + 32256)) (apart (s .wish) c)
 
-    rank-of : (a b d : ℕ) → permitted (vertices ns) (cellAt a b d) ≡ true
+    rank-of : (a b d : ℕ) → permitted l (cellAt a b d) ≡ true
         → rankOf wish a b d ≡ mapIn A B D .worth (a, (b, (d, tt))) + extra * 1073741824
     unfolding value
     rank-of a b d e =
@@ -131,34 +151,34 @@ module _ (ns : List ℤ) (valid : Valid (vertices ns)) {u v t : ℕ} {A B D : Sc
           ap (d *_) (brought-d .behind),
         )
 
-    member-of : (a b d : ℕ) → permitted (vertices ns) (cellAt a b d) ≡ sum (mapIn A B D .test (a, (b, (d, tt)))) (map keyOf (vertices ns))
+    member-of : (a b d : ℕ) → permitted l (cellAt a b d) ≡ sum (mapIn A B D .test (a, (b, (d, tt)))) (map keyOf l)
     member-of a b d =
-        permitted-corners a b d (vertices ns) (valid .corners) ∙
-        sym (sum-ext (mapIn A B D .test (a, (b, (d, tt)))) (keyFits a b d) (map keyOf (vertices ns)) (test-fits A B D a b d))
+        permitted-corners a b d l (valid .corners) ∙
+        sym (sum-ext (mapIn A B D .test (a, (b, (d, tt)))) (keyFits a b d) (map keyOf l) (test-fits A B D a b d))
 
     -- the least of the ranks and of a number above them all
-    module _ {none : ℕ} (r : ℕ) (best : Best (Rank (mapIn A B D) (map keyOf (vertices ns)) 0) none r) (above : 3 * 17592186044416 ≤ none) where
-      below : (a b d : ℕ) → (a < 1024) × (b < 1024) × (d < 1024) → permitted (vertices ns) (cellAt a b d) ≡ true → r ≤ mapIn A B D .worth (a, (b, (d, tt)))
+    module _ {none : ℕ} (r : ℕ) (best : Best (Rank (mapIn A B D) (map keyOf l) 0) none r) (above : 3 * 2 ^ 44 ≤ none) where
+      below : (a b d : ℕ) → (a < 1024) × (b < 1024) × (d < 1024) → permitted l (cellAt a b d) ≡ true → r ≤ mapIn A B D .worth (a, (b, (d, tt)))
       below a b d k e =
           omega (arith, best .least (0 + mapIn A B D .worth (a, (b, (d, tt)))) cell-there)
         where
-          cell-there : Rank (mapIn A B D) (map keyOf (vertices ns)) 0 (0 + mapIn A B D .worth (a, (b, (d, tt))))
+          cell-there : Rank (mapIn A B D) (map keyOf l) 0 (0 + mapIn A B D .worth (a, (b, (d, tt))))
           cell-there = record { at = (a, (b, (d, tt))); within = (k .0, (k .1, (k .2, tt))); member = sym (member-of a b d) ∙ e; is = refl }
 
-      found : (c : Cell) → permitted (vertices ns) c ≡ true → Rank (mapIn A B D) (map keyOf (vertices ns)) 0 r
+      found : (c : Cell) → permitted l c ≡ true → Rank (mapIn A B D) (map keyOf l) 0 r
       found c e = go (best .from)
         where
-          go : (r ≡ none) ⊎ Rank (mapIn A B D) (map keyOf (vertices ns)) 0 r → Rank (mapIn A B D) (map keyOf (vertices ns)) 0 r
+          go : (r ≡ none) ⊎ Rank (mapIn A B D) (map keyOf l) 0 r → Rank (mapIn A B D) (map keyOf l) 0 r
           go (inr h) = h
           go (inl h) =
-              let k = by-codes c (valid-within (vertices ns) valid c e) in
-              let l = below (k .a) (k .b) (k .d) (k .codes) (ap (permitted (vertices ns)) (k .is) ∙ e) in
+              let k = by-codes c (valid-within l valid c e) in
+              let lo = below (k .a) (k .b) (k .d) (k .codes) (ap (permitted l) (k .is) ∙ e) in
               let p = value-small A (brought-a .sound) (k .a) (k .codes .0) in
               let q = value-small B (brought-b .sound) (k .b) (k .codes .1) in
               let s = value-small D (brought-d .sound) (k .d) (k .codes .2) in
               absurd (omega (arith, p, q, s))
 
-      pub ranked : (c : Cell) → permitted (vertices ns) c ≡ true → Ranked ns wish (r + extra * 1073741824)
+      pub ranked : (c : Cell) → permitted l c ≡ true → Ranked l wish (r + extra * 1073741824)
       ranked c e =
           let h = found c e in
           let (a, s) = h .at in
@@ -166,13 +186,13 @@ module _ (ns : List ℤ) (valid : Valid (vertices ns)) {u v t : ℕ} {A B D : Sc
           let d = z .0 in
           let m = member-of a b d ∙ h .member in
           record {
-            focus = a;
-            first = b;
-            second = d;
+            focus-code = a;
+            first-code = b;
+            second-code = d;
             codes = (h .within .0, h .within .1 .0, h .within .1 .1 .0);
             member = m;
             is = omega (arith, rank-of a b d m, h .is);
-            least = λ x y w l p. omega (arith, rank-of x y w p, below x y w l p);
+            least = λ x y w k p. omega (arith, rank-of x y w p, below x y w k p);
           }
 
 -- ---- from the least rank to the nearest cell
@@ -201,35 +221,35 @@ lower-codes a b d x y z h k =
     ap (λ t. ltb a x || leb a x && t) (lex 1024 b y d z (h .1) (k .1)) ∙
     lex 1048576 a x (b * 1024 + d) (y * 1024 + z) (omega arith) (omega arith)
 
-module _ (ns : List ℤ) (valid : Valid (vertices ns)) (w : Cell) (r : ℕ) (h : Ranked ns w r) where
+module _ (l : List Corner) (valid : Valid l) (w : Cell) (r : ℕ) (h : Ranked l w r) where
   abbrev here : Cell
-  here = cellAt (h .focus) (h .first) (h .second)
+  here = cellAt (h .focus-code) (h .first-code) (h .second-code)
 
-  cell-here : Parts (distance w here) (h .focus) (h .first) (h .second) r → here ≡ cellOf r
+  cell-here : Parts (distance w here) (h .focus-code) (h .first-code) (h .second-code) r → here ≡ cellOf r
   cell-here p = λ i. cellAt (sym (p .one) i) (sym (p .two) i) (sym (p .three) i)
 
-  at-codes : Nearest (permitted (vertices ns)) w here
+  at-codes : Nearest (permitted l) w here
   at-codes =
       record {
         member = h .member;
-        least = λ c e. near c e (by-codes c (valid-within (vertices ns) valid c e));
-        lowest = λ c e f. low c e f (by-codes c (valid-within (vertices ns) valid c e));
+        least = λ c e. near c e (by-codes c (valid-within l valid c e));
+        lowest = λ c e f. low c e f (by-codes c (valid-within l valid c e));
       }
     where
-      near : (c : Cell) → permitted (vertices ns) c ≡ true → ByCodes c → distance w here ≤ distance w c
+      near : (c : Cell) → permitted l c ≡ true → ByCodes c → distance w here ≤ distance w c
       near c e k =
-          let l = h .least (k .a) (k .b) (k .d) (k .codes) (ap (permitted (vertices ns)) (k .is) ∙ e) in
+          let lo = h .least (k .a) (k .b) (k .d) (k .codes) (ap (permitted l) (k .is) ∙ e) in
           subst (λ (x : Cell). distance w here ≤ distance w x) (k .is) (omega (arith, h .is, k .codes, h .codes))
 
-      low : (c : Cell) → permitted (vertices ns) c ≡ true → distance w c ≡ distance w here → ByCodes c → lower c here ≡ false
+      low : (c : Cell) → permitted l c ≡ true → distance w c ≡ distance w here → ByCodes c → lower c here ≡ false
       low c e f k =
-          let l = h .least (k .a) (k .b) (k .d) (k .codes) (ap (permitted (vertices ns)) (k .is) ∙ e) in
+          let lo = h .least (k .a) (k .b) (k .d) (k .codes) (ap (permitted l) (k .is) ∙ e) in
           subst (λ (x : Cell). lower x here ≡ false) (k .is)
-          (lower-codes (k .a) (k .b) (k .d) (h .focus) (h .first) (h .second) (k .codes .1, k .codes .2) (h .codes .1, h .codes .2) ∙
-          le-ltb (asOne (k .a) (k .b) (k .d)) (asOne (h .focus) (h .first) (h .second)) (omega (arith, h .is, f, ap (distance w) (k .is))))
+          (lower-codes (k .a) (k .b) (k .d) (h .focus-code) (h .first-code) (h .second-code) (k .codes .1, k .codes .2) (h .codes .1, h .codes .2) ∙
+          le-ltb (asOne (k .a) (k .b) (k .d)) (asOne (h .focus-code) (h .first-code) (h .second-code)) (omega (arith, h .is, f, ap (distance w) (k .is))))
 
-  pub ranked-nearest : Nearest (permitted (vertices ns)) w (cellOf r) × (r / 1073741824 ≡ distance w (cellOf r))
+  pub ranked-nearest : Nearest (permitted l) w (cellOf r) × (r / 1073741824 ≡ distance w (cellOf r))
   ranked-nearest =
-      let p = parts (distance w here) (h .focus) (h .first) (h .second) r (h .codes) (h .is) in
+      let p = parts (distance w here) (h .focus-code) (h .first-code) (h .second-code) r (h .codes) (h .is) in
       let e = cell-here p in
-      (subst (λ (c : Cell). Nearest (permitted (vertices ns)) w c) e at-codes, p .far ∙ ap (distance w) e)
+      (subst (λ (c : Cell). Nearest (permitted l) w c) e at-codes, p .far ∙ ap (distance w) e)

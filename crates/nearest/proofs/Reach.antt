@@ -1,9 +1,10 @@
 -- From where to where a map lies on each axis: a permitted cell lies from the lowest to below the highest number of the list.
---   parts-ok                               the parts of the keys of corners are at most 1024
 --   below-low, above-high                  a sum over keys that are all above a code, or all not above two
 --   inside-extent, some-extent             a permitted cell lies inside, on every axis; a map that is not empty is wider than nothing
+--   keyed, keyed-..                        the keys of a map: they rise and are even along the focus
+--   located-wide, located-inside           from where to where it lies
 -- Assumes nothing.
-use mathlib.Core.Path.{_≡_, refl, sym, _∙_, ap}
+use mathlib.Core.Path.{_≡_, refl, sym, _∙_, ap, subst}
 use mathlib.Core.Bool.{Bool, true, false, _&&_, true≢false}
 use mathlib.Core.List.{List, map}
 use Prim.Native.Nat.{ℕ, _≤_, _<_}
@@ -16,14 +17,19 @@ use Rattle.meaning.specs.Numbers.{Axis, focus, first, second, Corner}
 use Rattle.meaning.specs.Lists.{permitted, Valid}
 use Rattle.meaning.proofs.Parity.{sum, sum-ext}
 use Rattle.meaning.proofs.Maps.{valid-within}
-use Rattle.codes.specs.Keys.{keyOf}
-use Rattle.keys.specs.Parts.{KeyOk, partOn, keyFits}
-use Rattle.keys.proofs.Corners.{part-ok, keys-ok, permitted-corners}
+use Rattle.codes.specs.Keys.{keyOf, ofKey}
+use Rattle.keys.specs.Parts.{partOn, keyFits}
+use Rattle.keys.proofs.Corners.{permitted-corners, keys-back, keys-rise}
 use Rattle.ranks.specs.Extents.{Extends}
+use Rattle.ranks.specs.declared.Scale.{Scale}
 use Rattle.ranks.specs.declared.Extent.{Extent}
-use Rattle.rising.proofs.Written.{all-at}
-use Rattle.search.proofs.Sweep.{sum-upto}
-use Rattle.nearest.proofs.Ranks.{cellAt, by-codes, within-codes, some-cell}
+use Rattle.rising.specs.Merged.{From}
+use Rattle.cells.specs.Cells.{sectionIn}
+use Rattle.search.specs.Search.{Even}
+use Rattle.nearest.specs.declared.Extents.{Extents}
+use Rattle.nearest.specs.Ranks.{Keyed, Located}
+use Rattle.squares.proofs.Runs.{sum-upto}
+use Rattle.nearest.proofs.Ranks.{cellAt, by-codes, within-codes, some-cell, parts-ok, even-keys}
 
 -- ---- sums over keys
 
@@ -100,10 +106,6 @@ module _ (l : List Corner) (valid : Valid l) {x y z : Extent}
         (λ h. omega (arith, within-codes l valid a b 1024 (fits a b 1024 ∙ sum-ext (keyFits a b 1024) _ (map keyOf l) (third-first a b 1024) ∙ h) .2)) in
         (p .0, p .1, q .0, q .1, r .0, r .1)
 
--- the parts of the keys of corners are at most 1024
-pub parts-ok : (l : List Corner) → Valid l → (axis : Axis) (i : ℕ) → i < length (map keyOf l) → partOn axis (getD (map keyOf l) i 0) ≤ 1024
-parts-ok l valid axis i h = part-ok axis (getD (map keyOf l) i 0) (all-at KeyOk (map keyOf l) (keys-ok l (valid .corners)) i h)
-
 -- a map that is not empty is wider than nothing on every axis
 pub some-extent : (l : List Corner) (valid : Valid l) → 0 < length l → {x y z : Extent}
     → Extends focus (map keyOf l) x → Extends first (map keyOf l) y → Extends second (map keyOf l) z
@@ -113,3 +115,41 @@ some-extent l valid h {x} {y} {z} p q r =
     let k = by-codes (s .0) (valid-within l valid (s .0) (s .1)) in
     let (a, b, c, d, e, f) = inside-extent l valid p q r (k .a) (k .b) (k .d) (ap (permitted l) (k .is) ∙ s .1) in
     (omega arith, omega arith, omega arith)
+
+-- ---- the keys of a map
+
+-- the keys of a valid list of corners that is not empty are those of a map
+pub keyed : (l : List Corner) (keys : List ℕ) → keys ≡ map keyOf l → Valid l → 0 < length l → Keyed keys
+keyed l keys e valid some =
+    let b : map ofKey keys ≡ l = ap (map ofKey) e ∙ keys-back l (valid .corners) in
+    record { valid = subst Valid (sym b) valid; some = subst (λ (m : List Corner). 0 < length m) (sym b) some; back = e ∙ ap (map keyOf) (sym b) }
+
+pub keyed-corners : (l : List Corner) (keys : List ℕ) → keys ≡ map keyOf l → Valid l → map ofKey keys ≡ l
+keyed-corners l keys e valid = ap (map ofKey) e ∙ keys-back l (valid .corners)
+
+pub keyed-parts : (keys : List ℕ) → Keyed keys → (axis : Axis) (i : ℕ) → i < length keys → partOn axis (getD keys i 0) ≤ 1024
+keyed-parts keys h axis =
+    subst (λ (k : List ℕ). (i : ℕ) → i < length k → partOn axis (getD k i 0) ≤ 1024) (sym (h .back)) (parts-ok (map ofKey keys) (h .valid) axis)
+
+module _ {keys : List ℕ} {e : Extents} (h : Located keys e) where
+  on-focus : Extends focus (map keyOf (map ofKey keys)) (e .focus)
+  on-focus = subst (λ (k : List ℕ). Extends focus k (e .focus)) (h .keyed .back) (h .on-focus)
+
+  on-first : Extends first (map keyOf (map ofKey keys)) (e .first)
+  on-first = subst (λ (k : List ℕ). Extends first k (e .first)) (h .keyed .back) (h .on-first)
+
+  on-second : Extends second (map keyOf (map ofKey keys)) (e .second)
+  on-second = subst (λ (k : List ℕ). Extends second k (e .second)) (h .keyed .back) (h .on-second)
+
+  pub located-wide : (e .focus .low < e .focus .high) × (e .first .low < e .first .high) × (e .second .low < e .second .high)
+  located-wide = some-extent (map ofKey keys) (h .keyed .valid) (h .keyed .some) on-focus on-first on-second
+
+  pub located-inside : (a b d : ℕ) → permitted (map ofKey keys) (cellAt a b d) ≡ true
+      → (e .focus .low ≤ a) × (a < e .focus .high) × (e .first .low ≤ b) × (b < e .first .high) × (e .second .low ≤ d) × (d < e .second .high)
+  located-inside = inside-extent (map ofKey keys) (h .keyed .valid) on-focus on-first on-second
+
+pub keyed-rise : (keys : List ℕ) → Keyed keys → From 0 keys
+keyed-rise keys h = subst (From 0) (sym (h .back)) (keys-rise (map ofKey keys) (h .valid .corners) (h .valid .rising))
+
+pub keyed-even : (B D : Scale) (keys : List ℕ) → Keyed keys → Even (sectionIn B D) keys
+keyed-even B D keys h = subst (Even (sectionIn B D)) (sym (h .back)) (even-keys B D (map ofKey keys) (h .valid))

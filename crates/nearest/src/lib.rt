@@ -1,18 +1,20 @@
 // The nearest permitted cell to a wish (document 01, demand 3). It relies on `lists` for the check, on `keys` for the keys of a list and on
 // `search` for the least rank among the cells that they permit.
 ghost use mathlib.Core.Path.{_≡_};
-ghost use Prim.Native.Nat.{_+_, _/_, _%_, _<_, _≤_, _^_};
+ghost use mathlib.Core.List.{map};
+ghost use Prim.Native.Nat.{_<_, _≤_, _^_};
 ghost use lib.ListN.{length};
-ghost use Rattle.meaning.specs.Numbers.{cell, number};
+ghost use Rattle.meaning.specs.Numbers.{cell};
 ghost use Rattle.meaning.specs.Lists.{vertices};
 ghost use Rattle.meaning.specs.Verdicts.{verdict};
-ghost use Rattle.codes.specs.Lift.{lowered};
+ghost use Rattle.codes.specs.Keys.{ofKey};
 ghost use Rattle.nearest.specs.Answer.{Answered};
-ghost use Rattle.nearest.specs.Ranks.{Ranked, Askable, Rooms};
+ghost use Rattle.nearest.specs.Ranks.{RankedFor, foundAt, Askable, Wished, Keyed, Located, Rooms, fewVertices};
 use meaning::MOST_VERTICES;
 use meaning::Verdict;
 use ranks::DISTANCE;
 use ranks::END;
+use ranks::Extent;
 
 // What one code of focus counts as distance, and one of either shift: `weight` of the distance's definition.
 const FOCUS_WEIGHT: u64 = 1;
@@ -32,12 +34,8 @@ const NONE: u64 = 1152921504606846976;
 // The numbers of a vertex.
 const NUMBERS: usize = 3;
 
-// The most vertices for which the working arrays are small ones, and twice as many.
+// The most vertices for which the working arrays are small ones.
 const SMALL: usize = 32;
-
-const TWICE_SMALL: usize = 64;
-
-const TWICE_MOST: usize = 2 * MOST_VERTICES;
 
 // What nearest answers.
 pub enum Found {
@@ -49,92 +47,102 @@ pub enum Found {
     Refused(Verdict),
 }
 
-// The least rank of the cells that a list permits, for a wish that is given by its steps above -32768; the slices are room to work in.
+// From where to where a map lies on the three axes.
+pub struct Extents {
+    pub focus: Extent,
+    pub first: Extent,
+    pub second: Extent,
+}
+
+// From where to where the map of some keys lies: what is asked once of a map, for all wishes.
+fn extents_of(keys: &[u32]) -> Extents
+    requires { ⌜ Keyed (now keys) ⌝ }
+    ensures { λ r. ⌜ Located (now (keys .entry)) r ⌝ }
+{
+    let focus = ranks::extend(keys, keys::FOCUS);
+    let first = ranks::extend(keys, keys::FIRST_SHIFT);
+    let second = ranks::extend(keys, keys::SECOND_SHIFT);
+    Extents {
+        focus,
+        first,
+        second,
+    }
+}
+
+// The least rank of the cells of the map of some keys, for a wish that is given by its steps above -32768; room and work are to work in.
+fn rank_of(
+    keys: &[u32],
+    extents: Extents,
+    focus: u32,
+    first: u32,
+    second: u32,
+    room: &mut [u32],
+    work: &mut [u32],
+) -> u64
+    requires { ⌜ Located (now keys) extents ⌝ }
+    requires { ⌜ Wished focus first second ⌝ }
+    requires { ⌜ (length (now keys) ≤ length (now room)) × (length (now keys) ≤ length (now work)) ⌝ }
+    ensures { λ r. ⌜ RankedFor (map ofKey (now (keys .entry))) focus first second r ⌝ }
+{
+    let x = extents.focus;
+    let y = extents.first;
+    let z = extents.second;
+    let a = ranks::bring(focus, x.low, x.high, FOCUS_WEIGHT, FOCUS_PLACE);
+    let b = ranks::bring(first, y.low, y.high, SHIFT_WEIGHT, FIRST_PLACE);
+    let d = ranks::bring(second, z.low, z.high, SHIFT_WEIGHT, SECOND_PLACE);
+    let rank = search::planes(keys, a, b, d, NONE, room, work);
+    let beyond = ranks::beyond(focus, a) + ranks::beyond(first, b) + ranks::beyond(second, d);
+    rank + beyond * DISTANCE
+}
+
+// The same of the cells that a list permits; the slices are room to work in.
 fn rank_with_room(
     list: &[i16],
     focus: u32,
     first: u32,
     second: u32,
     keys: &mut [u32],
-    below: &mut [u32],
-    above: &mut [u32],
-    line: &mut [u32],
-    spare: &mut [u32],
-    other: &mut [u32],
+    room: &mut [u32],
+    work: &mut [u32],
 ) -> u64
     requires { ⌜ Askable (now list) focus first second ⌝ }
-    requires { ⌜ Rooms (length (vertices (now list))) (now keys) (now below) (now above) (now line) (now spare) (now other) ⌝ }
-    ensures { λ r. ⌜ Ranked (now (list .entry)) (cell (lowered focus) (lowered first) (lowered second)) r × (r < 2 ^ 62) ⌝ }
+    requires { ⌜ Rooms (length (vertices (now list))) (now keys) (now room) (now work) ⌝ }
+    ensures { λ r. ⌜ RankedFor (vertices (now (list .entry))) focus first second r ⌝ }
 {
     let n = keys::read(list, keys);
     let front = &keys[..n];
-    let x = ranks::extend(front, keys::FOCUS);
-    let y = ranks::extend(front, keys::FIRST_SHIFT);
-    let z = ranks::extend(front, keys::SECOND_SHIFT);
-    let a = ranks::bring(focus, x.low, x.high, FOCUS_WEIGHT, FOCUS_PLACE);
-    let b = ranks::bring(first, y.low, y.high, SHIFT_WEIGHT, FIRST_PLACE);
-    let d = ranks::bring(second, z.low, z.high, SHIFT_WEIGHT, SECOND_PLACE);
-    let rank = search::planes(front, a, b, d, NONE, below, above, line, spare, other);
-    let beyond = ranks::beyond(focus, a) + ranks::beyond(first, b) + ranks::beyond(second, d);
-    rank + beyond * DISTANCE
+    let extents = extents_of(front);
+    rank_of(front, extents, focus, first, second, room, work)
 }
 
 // The same with room of its own for few vertices.
 fn rank_of_few(list: &[i16], focus: u32, first: u32, second: u32) -> u64
     requires { ⌜ Askable (now list) focus first second ⌝ }
-    requires { ⌜ length (vertices (now list)) ≤ 32 ⌝ }
-    ensures { λ r. ⌜ Ranked (now (list .entry)) (cell (lowered focus) (lowered first) (lowered second)) r × (r < 2 ^ 62) ⌝ }
+    requires { ⌜ length (vertices (now list)) ≤ fewVertices ⌝ }
+    ensures { λ r. ⌜ RankedFor (vertices (now (list .entry))) focus first second r ⌝ }
 {
     let mut keys = [0u32; SMALL];
-    let mut below = [0u32; SMALL];
-    let mut above = [0u32; SMALL];
-    let mut line = [0u32; SMALL];
-    let mut spare = [0u32; SMALL];
-    let mut other = [0u32; TWICE_SMALL];
-    rank_with_room(
-        list,
-        focus,
-        first,
-        second,
-        &mut keys,
-        &mut below,
-        &mut above,
-        &mut line,
-        &mut spare,
-        &mut other,
-    )
+    let mut room = [0u32; SMALL];
+    let mut work = [0u32; SMALL];
+    rank_with_room(list, focus, first, second, &mut keys, &mut room, &mut work)
 }
 
 // The same with room of its own for as many vertices as a list may have.
 fn rank_of_many(list: &[i16], focus: u32, first: u32, second: u32) -> u64
     requires { ⌜ Askable (now list) focus first second ⌝ }
     requires { ⌜ length (vertices (now list)) ≤ 1024 ⌝ }
-    ensures { λ r. ⌜ Ranked (now (list .entry)) (cell (lowered focus) (lowered first) (lowered second)) r × (r < 2 ^ 62) ⌝ }
+    ensures { λ r. ⌜ RankedFor (vertices (now (list .entry))) focus first second r ⌝ }
 {
     let mut keys = [0u32; MOST_VERTICES];
-    let mut below = [0u32; MOST_VERTICES];
-    let mut above = [0u32; MOST_VERTICES];
-    let mut line = [0u32; MOST_VERTICES];
-    let mut spare = [0u32; MOST_VERTICES];
-    let mut other = [0u32; TWICE_MOST];
-    rank_with_room(
-        list,
-        focus,
-        first,
-        second,
-        &mut keys,
-        &mut below,
-        &mut above,
-        &mut line,
-        &mut spare,
-        &mut other,
-    )
+    let mut room = [0u32; MOST_VERTICES];
+    let mut work = [0u32; MOST_VERTICES];
+    rank_with_room(list, focus, first, second, &mut keys, &mut room, &mut work)
 }
 
 // The cell and the distance of a rank.
 fn answer(rank: u64) -> Found
     requires { ⌜ rank < 2 ^ 62 ⌝ }
-    ensures { λ r. ⌜ r ≡ Found.At (number (rank / 1048576 % 1024)) (number (rank / 1024 % 1024)) (number (rank % 1024)) (rank / 1073741824) ⌝ }
+    ensures { λ r. ⌜ r ≡ foundAt rank ⌝ }
 {
     let codes = END as u64;
     let focus = keys::number_of((rank / FOCUS_PLACE % codes) as u32);

@@ -1,16 +1,21 @@
--- What the codes of one axis count: the cost rises strictly away from the wish, so that the code nearest to the wish has the least value.
+-- What the codes of one axis count: the value does not fall away from the wish.
 --   near-last      the code of a stretch that lies nearest to a wish above it
---   value-rises    the nearest code has the least value
+--   value-rises    the nearer of two codes on one way has the lower value
 --   value-fits     the parts of a value fit
---   least-near     the least value of a stretch
+--   at-fits, valued        what a code counts
+--   behind-above, behind-upto, behind-low     the code just behind a number
+--   Away, value-away       values do not fall away from the wish
 --   brought-to     the scale for a wish that is brought to the codes of a stretch
 --   beyond-fits, value-small     what the way to it counts, and what a code counts, are small
 -- Assumes nothing.
 use mathlib.Core.Path.{_≡_, refl, sym, _∙_, ap, ap₂}
-use Prim.Native.Nat.{ℕ, _+_, _-_, _*_, _≤_, _<_}
+use mathlib.Core.Bool.{Bool, true, false, cond}
+use Prim.Native.Nat.{ℕ, _+_, _-_, _*_, _^_, _≤_, _<_}
+use lib.Dec.{ltb}
+use borrow.Author.Tests.{lt-ltb, le-ltb}
 use native.Mathlib.Omega.{arith}
 use native.Mathlib.Nat.{mul-le-mul, mul-le-mul-left, mul-le-mul-right, mul-add, add-mul}
-use Rattle.ranks.specs.Values.{apart, Near, value, Sound, Least, way, Brought}
+use Rattle.ranks.specs.Values.{apart, Near, value, Sound, Valued, behind, way, Brought}
 use Rattle.ranks.specs.declared.Scale.{Scale}
 
 -- a wish above a stretch is nearest to its last code
@@ -50,23 +55,42 @@ value-fits weight a c place p q s u =
       behind = let m : c ≤ 1023 = omega arith in omega (arith, mul-le-mul m u);
     }
 
-module _ (scale : Scale) (sound : Sound scale) (low high : ℕ) (end : high ≤ 1024) (c : ℕ) (near : Near (scale .wish) low high c) where
-  pub least-fits : Parts (scale .weight) (apart (scale .wish) c) c (scale .place)
-  least-fits =
-      value-fits (scale .weight) (apart (scale .wish) c) c (scale .place) (sound .light)
-      (omega (arith, sound .code, near .below)) (omega (arith, near .below)) (sound .inside)
+module _ (scale : Scale) (sound : Sound scale) (c : ℕ) (inside : c < 1024) where
+  pub at-fits : Parts (scale .weight) (apart (scale .wish) c) c (scale .place)
+  at-fits =
+      value-fits (scale .weight) (apart (scale .wish) c) c (scale .place) (sound .light) (omega (arith, sound .code)) inside (sound .inside)
 
-  pub least-near : Least (value scale) low high (scale .weight * apart (scale .wish) c * 1073741824 + c * scale .place)
+  pub valued : Valued scale c (scale .weight * apart (scale .wish) c * 1073741824 + c * scale .place)
   unfolding value
-  least-near =
-      record {
-        code = c;
-        from = near .from;
-        below = near .below;
-        is = refl;
-        every = λ d h k. value-rises (scale .weight) (scale .wish) c d (scale .place) (sound .some) (sound .inside) (near .between d h k);
-        small = let f = least-fits in omega (arith, f .cost, f .behind);
-      }
+  valued = let f = at-fits in record { is = refl; small = omega (arith, f .cost, f .behind) }
+
+-- ---- the code behind a number, and away from the wish
+
+pub behind-above : (w e : ℕ) → w < e → behind w e ≡ e
+behind-above w e h = ap (λ t. cond t e (e - 1)) (lt-ltb w e h)
+
+pub behind-upto : (w e : ℕ) → e ≤ w → behind w e ≡ e - 1
+behind-upto w e h = ap (λ t. cond t e (e - 1)) (le-ltb w e h)
+
+pub behind-low : (w e : ℕ) → behind w e ≤ e
+behind-low w e = go (ltb w e)
+  where
+    go : (t : Bool) → cond t e (e - 1) ≤ e
+    go true = omega arith
+    go false = omega arith
+
+-- values that do not fall away from the wish
+pub record Away (w : ℕ) (v : ℕ → ℕ) : Type 0 where
+  pub up : (a b : ℕ) → w ≤ a → a ≤ b → v a ≤ v b
+  pub down : (a b : ℕ) → a ≤ b → b ≤ w → v b ≤ v a
+
+pub value-away : (scale : Scale) → Sound scale → Away (scale .wish) (value scale)
+unfolding value
+value-away scale sound =
+    record {
+      up = λ a b p q. value-rises (scale .weight) (scale .wish) a b (scale .place) (sound .some) (sound .inside) (omega arith);
+      down = λ a b p q. value-rises (scale .weight) (scale .wish) b a (scale .place) (sound .some) (sound .inside) (omega arith);
+    }
 
 -- ---- a wish brought to the codes of a stretch
 
@@ -99,8 +123,5 @@ beyond-fits scale sound wish h =
     let m : apart wish (scale .wish + 32256) ≤ 65535 = omega (arith, sound .code) in omega (arith, mul-le-mul (sound .light) m)
 
 -- the value of a code within the range
-pub value-small : (scale : Scale) → Sound scale → (c : ℕ) → c < 1024 → value scale c < 17592186044416
-unfolding value
-value-small scale sound c h =
-    let f = value-fits (scale .weight) (apart (scale .wish) c) c (scale .place) (sound .light) (omega (arith, sound .code)) h (sound .inside) in
-    omega (arith, f .cost, f .behind)
+pub value-small : (scale : Scale) → Sound scale → (c : ℕ) → c < 1024 → value scale c < 2 ^ 44
+value-small scale sound c h = let f = valued scale sound c h in omega (arith, f .is, f .small)

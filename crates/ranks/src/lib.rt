@@ -1,11 +1,10 @@
 // What the codes of one axis count in a rank, and from where to where a map lies on it. Inner: what the search for the nearest cell builds on.
-// A rank is one number for the distance of a cell and, among equals, its focus, first and second shift: the sum of one value for each
-// axis, so that the least rank of a box is the sum of the least values of its sides.
+// A rank is one number for the distance of a cell and, among equals, its focus, first and second shift: the sum of one value for each axis.
 ghost use mathlib.Core.Path.{_≡_};
 ghost use Prim.Native.Nat.{ℕ, _<_, _≤_, min, max};
 ghost use lib.ListN.{length, getD};
 ghost use Rattle.keys.specs.Parts.{axisAt, partOn};
-ghost use Rattle.ranks.specs.Values.{apart, Near, value, Sound, Least, way, Brought};
+ghost use Rattle.ranks.specs.Values.{axisCodes, apart, Near, value, Sound, Valued, behind, way, Brought};
 ghost use Rattle.ranks.specs.Extents.{Extends};
 
 // How many codes an axis has.
@@ -45,20 +44,41 @@ pub fn near(wish: u32, low: u32, high: u32) -> u32
     wish
 }
 
-// The least value of the codes from low to below high.
-pub fn least(scale: Scale, low: u32, high: u32) -> u64
+// What a code counts in a rank.
+pub fn value_at(scale: Scale, code: u32) -> u64
     requires { ⌜ Sound scale ⌝ }
-    requires { ⌜ (low < high) × (high ≤ 1024) ⌝ }
-    ensures { λ r. ⌜ Least (value scale) low high r ⌝ }
+    requires { ⌜ code < axisCodes ⌝ }
+    ensures { λ r. ⌜ Valued scale code r ⌝ }
 {
-    let code = near(scale.wish, low, high);
     let cost = scale.weight * (gap(scale.wish, code) as u64);
     cost * DISTANCE + (code as u64) * scale.place
 }
 
+// The code just behind a number as seen from the wish.
+fn code_behind(wish: u32, number: u32) -> u32
+    ensures { λ r. ⌜ r ≡ behind wish number ⌝ }
+{
+    if wish < number {
+        return number;
+    }
+    if number == 0 {
+        return 0;
+    }
+    number - 1
+}
+
+// What the code just behind a number counts in a rank.
+pub fn value_behind(scale: Scale, number: u32) -> u64
+    requires { ⌜ Sound scale ⌝ }
+    requires { ⌜ number < axisCodes ⌝ }
+    ensures { λ r. ⌜ Valued scale (behind (scale .wish) number) r ⌝ }
+{
+    value_at(scale, code_behind(scale.wish, number))
+}
+
 // The scale of an axis for a wish, of which all cells lie from low to below high: the wish is brought to the nearest code there.
 pub fn bring(wish: u32, low: u32, high: u32, weight: u64, place: u64) -> Scale
-    requires { ⌜ (low < high) × (high ≤ 1024) ⌝ }
+    requires { ⌜ (low < high) × (high ≤ axisCodes) ⌝ }
     requires { ⌜ (0 < weight) × (weight ≤ 16) × (place ≤ 1048576) ⌝ }
     ensures { λ r. ⌜ Brought wish low high weight place r ⌝ }
 {
@@ -101,7 +121,7 @@ fn greater(a: u32, b: u32) -> u32
 
 // From where to where the parts of some keys lie on an axis: a wish outside is first brought to there, so that the search can stop early.
 pub fn extend(keys: &[u32], axis: u32) -> Extent
-    requires { ⌜ ((i : ℕ) → i < length (now keys) → partOn (axisAt axis) (getD (now keys) i 0) ≤ 1024) ⌝ }
+    requires { ⌜ ((i : ℕ) → i < length (now keys) → partOn (axisAt axis) (getD (now keys) i 0) ≤ axisCodes) ⌝ }
     ensures { λ r. ⌜ Extends (axisAt axis) (now (keys .entry)) r ⌝ }
 {
     let mut low = END;

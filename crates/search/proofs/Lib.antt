@@ -1,6 +1,3 @@
--- The laws of the search.
-pub mod Best
-pub mod Sweep
-pub mod Runs
-pub mod Walk
-pub mod Sweeping
+-- Laws: where a run begins (Back), and the planes of a map (Outwards).
+pub mod Back
+pub mod Outwards

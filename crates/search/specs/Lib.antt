@@ -1,2 +1,2 @@
--- What the parts of the search lend each other.
+-- The section at a place, and lists that are even along their first axis.
 pub mod Search

@@ -68,12 +68,12 @@ module _ (c : tie.After-lift3) where
 
   -- the answer of the least rank for the wish as it was lifted is the answer for the wish
   said : (r : ℕ) (f : Found) → f ≡ At (number (r / 1048576 % 1024)) (number (r / 1024 % 1024)) (number (r % 1024)) (r / 1073741824)
-      → Ranked (numbers c) (cell (lowered (c .before .before .lift .result)) (lowered (c .before .lift2 .result)) (lowered (c .lift3 .result))) r
+      → Ranked (vertices (numbers c)) (cell (lowered (c .before .before .lift .result)) (lowered (c .before .lift2 .result)) (lowered (c .lift3 .result))) r
       → Answered (numbers c) (wish c) f
   said r f e h =
       subst (Answered (numbers c) (wish c)) (sym e)
       (answered (numbers c) (wish c) r (start c .pre)
-      (subst (λ (w : Cell). Ranked (numbers c) w r) (λ i. cell (on-focus .0 i) (on-first .0 i) (on-second .0 i)) h))
+      (subst (λ (w : Cell). Ranked (vertices (numbers c)) w r) (λ i. cell (on-focus .0 i) (on-first .0 i) (on-second .0 i)) h))
 
 lift-requires : tie.Need-lift-requires
 lift-requires c κs = search needs

@@ -1,5 +1,4 @@
 -- `rank_of_few` meets its contract: the rooms are long enough.
-use native.Mathlib.Omega.{arith}
 use borrow.Author.Needs.{needs}
 use Rattle.nearest.proofs.rank_of_few.Statement.{statement}
 use Rattle.nearest.proofs.rank_of_few.Tie as tie
@@ -13,20 +12,11 @@ slice-aggregate-rank-with-room-2 c = search needs
 slice-aggregate-rank-with-room-3 : tie.Need-slice-aggregate-rank-with-room-3
 slice-aggregate-rank-with-room-3 c = search needs
 
-slice-aggregate-rank-with-room-4 : tie.Need-slice-aggregate-rank-with-room-4
-slice-aggregate-rank-with-room-4 c = search needs
-
-slice-aggregate-rank-with-room-5 : tie.Need-slice-aggregate-rank-with-room-5
-slice-aggregate-rank-with-room-5 c = search needs
-
-slice-aggregate-rank-with-room-6 : tie.Need-slice-aggregate-rank-with-room-6
-slice-aggregate-rank-with-room-6 c = search needs
-
 rank-with-room-requires : tie.Need-rank-with-room-requires
 rank-with-room-requires c κs =
-    let s = c .before .before .before .before .before .before in
+    let s = c .before .before .before in
     let h = s .pre .1 in
-    (s .pre .0, record { keys-fit = h; below-fits = h; above-fits = h; line-fits = h; spare-fits = h; other-fits = omega (arith, h) })
+    (s .pre .0, record { keys-fit = h; room-fits = h; work-fits = h })
 
 returns : tie.Need-returns
 returns c = search needs
@@ -38,8 +28,5 @@ rank-of-few-spec =
     slice-aggregate-rank-with-room
     slice-aggregate-rank-with-room-2
     slice-aggregate-rank-with-room-3
-    slice-aggregate-rank-with-room-4
-    slice-aggregate-rank-with-room-5
-    slice-aggregate-rank-with-room-6
     rank-with-room-requires
     returns)

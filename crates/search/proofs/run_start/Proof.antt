@@ -3,8 +3,9 @@ use Prim.Native.Nat.{_-_}
 use native.Mathlib.Omega.{arith}
 use native.Mathlib.Nat.{div-mul-le-self}
 use lib.ListN.{getD}
-use Rattle.search.specs.Search.{high}
-use Rattle.search.proofs.Runs.{Back, back-begins, back-run, back-on, back-stops, cut-none}
+use Rattle.cells.specs.Cells.{high}
+use Rattle.squares.proofs.Runs.{cut-none}
+use Rattle.search.proofs.Back.{Back, back-begins, back-run, back-on, back-stops}
 use borrow.Author.Needs.{needs}
 use Rattle.search.proofs.run_start.Statement.{statement}
 use Rattle.search.proofs.run_start.Tie as tie

@@ -1,0 +1,2 @@
+-- Rising lists that count from a base.
+pub mod Rising
