@@ -2,6 +2,7 @@
 --   answered-cell, answered-empty, answered-refused    the promise, from what is known
 --   found-cell, found-empty, found-refused             what the promise says of each answer
 --   outcome-once, settled                              nearest comes to one thing, and two answers that the promise allows are equal
+--   wish-back                                          a wish that is passed on comes back from its bits
 -- Assumes nothing.
 use mathlib.Core.Path.{_≡_, refl, sym, _∙_, ap, subst}
 use mathlib.Core.Bool.{Bool, true, false, cond, true≢false, false≢true}
@@ -11,6 +12,9 @@ use native.Mathlib.Omega.{arith}
 use lib.Dec.{eqb}
 use lib.IntN.{ℤ, pos}
 use lib.ListN.{length}
+use mir.Syntax.{w16}
+use mir.Val.{SFits, toZ, ofZ}
+use mir.ValLaws.{toZ-ofZ}
 use Rattle.meaning.specs.Numbers.{Cell, Corner, cell}
 use Rattle.meaning.specs.Lists.{vertices, permitted, Rising}
 use Rattle.meaning.specs.Verdicts.{verdict, passes}
@@ -137,3 +141,10 @@ module _ (ns : List ℤ) (w : Cell) where
 
   pub settled : (r s : Found) → Answered ns w r → Answered ns w s → r ≡ s
   settled r s h k = sym (found-back r) ∙ ap foundBy (h .is ∙ outcome-once (h .at) (k .at) (h .nearest) (k .nearest) ∙ sym (k .is)) ∙ found-back s
+
+-- ---- a wish that is passed on comes back from its bits
+
+pub wish-back : (ns : List ℤ) (f : Found) (x y z : ℤ) → SFits w16 x → SFits w16 y → SFits w16 z
+    → Answered ns (cell (toZ w16 (ofZ w16 x)) (toZ w16 (ofZ w16 y)) (toZ w16 (ofZ w16 z))) f → Answered ns (cell x y z) f
+wish-back ns f x y z p q r h =
+    subst (λ (w : Cell). Answered ns w f) (λ i. cell (toZ-ofZ w16 x p i) (toZ-ofZ w16 y q i) (toZ-ofZ w16 z r i)) h

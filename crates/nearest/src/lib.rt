@@ -7,6 +7,7 @@ ghost use lib.ListN.{length};
 ghost use Rattle.meaning.specs.Numbers.{cell};
 ghost use Rattle.meaning.specs.Lists.{vertices};
 ghost use Rattle.meaning.specs.Verdicts.{verdict};
+ghost use Rattle.lists.specs.Check.{Checked};
 ghost use Rattle.codes.specs.Keys.{ofKey};
 ghost use Rattle.nearest.specs.Answer.{Answered};
 ghost use Rattle.nearest.specs.Ranks.{RankedFor, foundAt, Askable, Wished, Keyed, Located, Rooms, fewVertices};
@@ -168,13 +169,20 @@ pub fn nearest_of_map(list: &[i16], focus: i16, first: i16, second: i16) -> Foun
     answer(rank_of_many(list, a, b, d))
 }
 
-// The permitted cell nearest to a wish, with its distance: of several the one with the lowest focus, then first shift, then second.
-pub fn nearest(list: &[i16], focus: i16, first: i16, second: i16) -> Found
+// Inner: what `nearest` answers, by the check's verdict on the list. Apart from the check, so that the two do not stand on the stack together.
+pub fn nearest_by(verdict: Verdict, list: &[i16], focus: i16, first: i16, second: i16) -> Found
+    requires { ⌜ Checked (now list) verdict ⌝ }
     ensures { λ r. ⌜ Answered (now (list .entry)) (cell focus first second) r ⌝ }
 {
-    let verdict = lists::check(list);
     let Verdict::Valid = verdict else {
         return Found::Refused(verdict);
     };
     nearest_of_map(list, focus, first, second)
+}
+
+// The permitted cell nearest to a wish, with its distance: of several the one with the lowest focus, then first shift, then second.
+pub fn nearest(list: &[i16], focus: i16, first: i16, second: i16) -> Found
+    ensures { λ r. ⌜ Answered (now (list .entry)) (cell focus first second) r ⌝ }
+{
+    nearest_by(lists::check(list), list, focus, first, second)
 }

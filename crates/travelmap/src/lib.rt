@@ -3,6 +3,7 @@
 // functions for C.
 ghost use Rattle.meaning.specs.Numbers.{cell, corner};
 ghost use Rattle.travelmap.specs.Exports.{threeAxes, CheckPacked, CellPacked, CornerPacked, PlanePacked, BoxPacked, JoinPacked, SectionPacked, SplitPacked, NearestPacked, DistancePacked};
+use nearest::nearest_by;
 use packing::pack_box;
 use packing::pack_cell;
 use packing::pack_corner;
@@ -102,7 +103,7 @@ pub extern "C" fn travelmap_split(
 pub extern "C" fn travelmap_nearest(list: &[i16], focus: i16, first: i16, second: i16) -> u64
     ensures { λ r. ⌜ NearestPacked (now (list .entry)) (cell focus first second) r ⌝ }
 {
-    pack_nearest(nearest::nearest(list, focus, first, second))
+    pack_nearest(nearest_by(lists::check(list), list, focus, first, second))
 }
 
 // The distance from a wish to the nearest permitted cell.
@@ -115,5 +116,5 @@ pub extern "C" fn travelmap_nearest_distance(
 ) -> u64
     ensures { λ r. ⌜ DistancePacked (now (list .entry)) (cell focus first second) r ⌝ }
 {
-    pack_distance(nearest::nearest(list, focus, first, second))
+    pack_distance(nearest_by(lists::check(list), list, focus, first, second))
 }

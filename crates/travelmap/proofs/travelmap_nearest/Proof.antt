@@ -4,16 +4,19 @@ use borrow.Author.Needs.{needs}
 use Rattle.travelmap.proofs.travelmap_nearest.Statement.{statement}
 use Rattle.travelmap.proofs.travelmap_nearest.Tie as tie
 
-nearest-requires : tie.Need-nearest-requires
-nearest-requires c κs = search needs
+check-requires : tie.Need-check-requires
+check-requires c κs = search needs
+
+nearest-by-requires : tie.Need-nearest-by-requires
+nearest-by-requires c κs = c .check .ensures
 
 pack-nearest-requires : tie.Need-pack-nearest-requires
-pack-nearest-requires c κs = found-fits _ _ _ (c .nearest .ensures)
+pack-nearest-requires c κs = found-fits _ _ _ (c .nearest-by .ensures)
 
 returns : tie.Need-returns
 returns c =
-    let f = c .before .before .fits in
-    found-packed _ _ _ _ _ _ (f .focus) (f .first) (f .second) _ (c .before .nearest .ensures) (c .pack-nearest .ensures)
+    let f = c .before .before .before .fits in
+    found-packed _ _ _ _ _ _ (f .focus) (f .first) (f .second) _ (c .before .nearest-by .ensures) (c .pack-nearest .ensures)
 
 pub travelmap-nearest-spec : {M : Type 1} → statement M
-travelmap-nearest-spec = tie.close (tie.spec nearest-requires pack-nearest-requires returns)
+travelmap-nearest-spec = tie.close (tie.spec check-requires nearest-by-requires pack-nearest-requires returns)
