@@ -49,7 +49,8 @@ fn put_nearest(
     requires { ⌜ (length (now keys) ≤ length (now room)) × (length (now keys) ≤ length (now work)) ⌝ }
     requires { ⌜ (at + 2 < length (now wishes)) × (at + 2 < length (now cells)) ⌝ }
     ensures { λ r. ⌜
-        NearestPut (map ofKey (now (keys .entry))) (wishFrom (now (wishes .entry)) at) at (now (cells .entry)) (now (cells .exit))
+        NearestPut (map ofKey (now (keys .entry))) (wishFrom (now (wishes .entry)) at) at
+        (now (cells .entry)) (now (cells .exit))
         ⌝ }
 {
     let a = codes::lift(wishes[at]) as u32;
