@@ -1,9 +1,10 @@
 -- The least rank along an axis, for any axis: the lesser of the cells at the wish's code and of those just behind each high part, each high part's
 -- own numbers taken by themselves.
 --   rank-stop                  no cell is better than the base
---   part-none, part-of         cells of a part of a list; of a list that stands for the part
+--   part-of                    the cells of a part of a list are those of a list that stands for it
 --   turned-none, turned-stop   no high part; none that is better
 --   turned-two, turned-down    two stretches of high parts, from below or from above
+--   wish-least, turned-past    the wish's own code has the least value; nothing is better than a cell there
 --   axis-least                 the law
 -- Assumes nothing.
 use mathlib.Core.Path.{_≡_, refl, sym, _∙_}

@@ -2,6 +2,7 @@
 --   test-fits           the search tests what a key's parts say
 --   by-codes            a permitted cell by its codes counted from 0
 --   within-codes, some-cell     of a valid list: its cells lie within the codes; one that is not empty permits a cell
+--   of-keys             the least rank of a list of keys is that of an equal one
 --   parts-ok, even-keys     the parts of a map's keys; its keys are even along the focus
 --   ranked              the least rank that the search finds, and what the ways to the scales' codes count, is the least rank of the permitted cells
 --   ranked-nearest      the least rank is the nearest cell and its distance
@@ -94,6 +95,9 @@ some-cell [] valid h = absurd (omega arith)
 some-cell (v ∷ l) valid h = some-permitted v l (valid .rising)
 
 -- ---- from the search to the least rank
+
+pub of-keys : {D : Depth} {k l : List ℕ} {none r : ℕ} → k ≡ l → Best (Rank D k 0) none r → Best (Rank D l 0) none r
+of-keys {D} {k} {l} {none} {r} e b = subst (λ (m : List ℕ). Best (Rank D m 0) none r) e b
 
 -- the parts of the keys of corners are at most 1024
 pub parts-ok : (l : List Corner) → Valid l → (axis : Axis) (i : ℕ) → i < length (map keyOf l) → partOn axis (getD (map keyOf l) i 0) ≤ 1024

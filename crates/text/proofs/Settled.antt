@@ -1,12 +1,14 @@
 -- The output is settled: any two outputs that the promise allows are equal.
 --   line-settled, answers-settled, writes-settled    lines, answers, whole outputs
 --   put-settled, responds-settled                    the number of bytes and the room at exit
+--   put-within                                       what is written lies within the room
 --   most-bytes                                       the limit of the input is 19,214
 use mathlib.Core.Path.{_≡_, refl, sym, _∙_, ap, ap₂}
 use mathlib.Core.List.{List, [], _∷_, _++_}
-use Prim.Native.Nat.{ℕ, zero, suc, _/_}
+use Prim.Native.Nat.{ℕ, zero, suc, _/_, _≤_}
+use native.Mathlib.Omega.{arith}
 use lib.IntN.{ℤ}
-use lib.ListN.{length}
+use lib.ListN.{length, drop, length-append}
 use Rattle.meaning.specs.Numbers.{Cell, Corner}
 use Rattle.meaning.specs.Lists.{vertices, permitted, mostVertices}
 use Rattle.meaning.specs.Outcomes.{front}
@@ -36,6 +38,11 @@ pub put-settled : (o : Response) (before : List ℕ) {m n : ℕ} {a b : List ℕ
 put-settled o before {m} {n} {a} {b} p q =
     let same = writes-settled o (p .writes) (q .writes) in
     (p .count ∙ ap length same ∙ sym (q .count), p .contents ∙ ap (λ l. front l before) same ∙ sym (q .contents))
+
+-- what is written lies within the room
+pub put-within : (o : Response) (before : List ℕ) {n : ℕ} {after : List ℕ} → Put o before n after → n ≤ length after
+put-within o before {n} p =
+    omega (arith, p .count, ap length (p .contents), length-append (p .written) (drop (length (p .written)) before))
 
 pub responds-settled : (input before : List ℕ) {m n : ℕ} {a b : List ℕ} → Responds input before m a → Responds input before n b → (m ≡ n) × (a ≡ b)
 responds-settled input before p q = put-settled (response input) before p q

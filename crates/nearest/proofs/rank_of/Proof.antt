@@ -12,10 +12,10 @@ use Rattle.codes.specs.Lift.{lowered}
 use Rattle.ranks.specs.Values.{Sound, way}
 use Rattle.ranks.specs.declared.Scale.{Scale}
 use Rattle.ranks.proofs.Costs.{beyond-fits}
-use Rattle.cells.specs.Cells.{Best, Rank, mapIn}
+use Rattle.cells.specs.Cells.{mapIn}
 use Rattle.nearest.specs.Ranks.{Ranked}
 use Rattle.nearest.proofs.Reach.{located-wide, located-inside, keyed-rise, keyed-even}
-use Rattle.nearest.proofs.Ranks.{some-cell, ranked}
+use Rattle.nearest.proofs.Ranks.{some-cell, of-keys, ranked}
 use borrow.Author.Needs.{needs}
 use Rattle.nearest.proofs.rank_of.Statement.{statement}
 use Rattle.nearest.proofs.rank_of.Tie as tie
@@ -157,8 +157,7 @@ returns c =
     let s = begun p in
     let k = s .pre .0 .keyed in
     let t = some-cell (corners s) (k .valid) (k .some) in
-    let best =
-    subst (λ (m : List ℕ). Best (Rank (mapIn (focus p) (first p) (second p)) m 0) 1152921504606846976 (p .planes .result)) (k .back) (p .planes .ensures) in (
+    let best = of-keys {D = mapIn (focus p) (first p) (second p)} (k .back) (p .planes .ensures) in (
       subst (λ (n : ℕ). Ranked (corners s) (wish s) (p .planes .result + n * 1073741824)) (sym (whole c))
           (ranked (corners s) (k .valid) (b .before .before .bring .ensures) (b .before .bring2 .ensures) (b .bring3 .ensures) (located-inside (s .pre .0))
           (p .planes .result) best (omega arith) (t .0) (t .1)),

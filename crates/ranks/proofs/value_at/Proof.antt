@@ -16,6 +16,12 @@ scale c = c .before .args .scale
 cost : (c : tie.After-gap) → scale c .weight * c .gap .result ≡ scale c .weight * apart (scale c .wish) (c .before .args .code)
 cost c = ap (scale c .weight *_) (c .gap .ensures)
 
+returns : tie.Need-returns
+returns c =
+    let g = c .before .before in
+    let s = g .before in
+    rw (cost g) (valued (s .args .scale) (s .pre .0) (s .args .code) (s .pre .1))
+
 -- the parts of the value fit
 fits : (c : tie.After-gap) → Parts (scale c .weight) (apart (scale c .wish) (c .before .args .code)) (c .before .args .code) (scale c .place)
 fits c = let s = c .before in at-fits (s .args .scale) (s .pre .0) (s .args .code) (s .pre .1)
@@ -37,12 +43,6 @@ mul-result-2 c = omega (arith, fits (c .before .before) .behind)
 
 add-result : tie.Need-add-result
 add-result c = omega (arith, fits (c .before .before) .cost, cost (c .before .before), fits (c .before .before) .behind)
-
-returns : tie.Need-returns
-returns c =
-    let g = c .before .before in
-    let s = g .before in
-    rw (cost g) (valued (s .args .scale) (s .pre .0) (s .args .code) (s .pre .1))
 
 pub value-at-spec : {M : Type 1} → statement M
 value-at-spec =

@@ -2,6 +2,7 @@
 use mathlib.Core.Path.{sym}
 use borrow.Author.Needs.{needs}
 use lib.Seq.{length-take-le}
+use Rattle.text.proofs.Settled.{put-within}
 use Rattle.travel.proofs.main.Statement.{statement}
 use Rattle.travel.proofs.main.Tie as tie
 
@@ -21,10 +22,10 @@ respond-requires : tie.Need-respond-requires
 respond-requires c κs = search needs
 
 array-share-prefix-output : tie.Need-array-share-prefix-output
-array-share-prefix-output c = search needs
+array-share-prefix-output c = put-within _ _ (c .respond .ensures)
 
 slice-aggregate-write-all : tie.Need-slice-aggregate-write-all
-slice-aggregate-write-all c = sym (length-take-le _ _ (c .before .respond .ensures .within))
+slice-aggregate-write-all c = sym (length-take-le _ _ (put-within _ _ (c .before .respond .ensures)))
 
 write-all-requires : tie.Need-write-all-requires
 write-all-requires c κs = search needs
