@@ -7,8 +7,9 @@
 
    What is passed. A slice is two arguments: a pointer, and a length in numbers (not in bytes and not in vertices). The
    pointer is aligned as int16_t is, and not null, also where the length is 0; as many numbers as the length says can
-   be read there, and in a result written. A result shares no memory with a list or with another result. Beyond that
-   every argument may have any value: a list need not be valid, and every number that is asked about may be any int16_t.
+   be read there, and in a result written. A result shares no memory with a list, with wishes or with another result.
+   Beyond that every argument may have any value: a list need not be valid, and every number that is asked about may be
+   any int16_t.
    Nothing is kept after a call, no memory is taken, and functions may be called from several threads at once. Working
    arrays stand on the stack: have 64 KB of it free for a call (measured: at most 46 KB; docs/BENCH.md).
 
@@ -45,7 +46,7 @@ enum travelmap_number {
     TRAVELMAP_OUT_OF_RANGE = 3,  /* a number outside -512 to 512; place: the first such vertex, from 0 */
     TRAVELMAP_NOT_RISING = 4,    /* a vertex not above the one before it; place: the first such vertex */
     TRAVELMAP_ODD_LINE = 5,      /* an odd line; place: the first vertex, in list order, on any odd line */
-    TRAVELMAP_NO_ROOM = 6,       /* the correct result has more vertices (pairs) than fit, or more than 1,024 */
+    TRAVELMAP_NO_ROOM = 6,       /* the correct result has more vertices (pairs, cells) than fit, or a list over 1,024 */
     TRAVELMAP_EMPTY = 7,         /* nearest asked of the empty list */
     TRAVELMAP_BAD_OPERATION = 8, /* operation not 1 to 4 */
     TRAVELMAP_BAD_NUMBER = 9,    /* axis not 0 to 2, section code or split number out of range, bad box ends */
@@ -164,6 +165,14 @@ uint64_t travelmap_nearest(const int16_t *list, size_t length, int16_t focus, in
 /* The distance from a wish to the nearest permitted cell, in bits 0 to 31. An invalid list is answered with its refusal
    (1 to 5, operand 1), the empty list with 7, and the distance is then 0. */
 uint64_t travelmap_nearest_distance(const int16_t *list, size_t length, int16_t focus, int16_t first, int16_t second);
+
+/* The permitted cells nearest to many wishes, three numbers each, of a map that is checked once: each cell is the one that
+   travelmap_nearest gives. 1 to 5 with operand 1 where the list is not valid; 1 with operand 2 where the length of the
+   wishes is not a multiple of 3; 7 of the empty list, also where there is no wish; 6 where the wishes have more numbers
+   than the result. Done: the cells stand at the front of the result, three codes each, in the order of the wishes; no
+   list is made, and the count is 0. */
+uint64_t travelmap_nearest_each(const int16_t *list, size_t length, const int16_t *wishes, size_t wishes_length,
+                                int16_t *result, size_t result_length);
 
 #ifdef __cplusplus
 }

@@ -96,6 +96,26 @@ static void wishes(struct slice map) {
     same("distance of the empty list", TRAVELMAP_EMPTY, TRAVELMAP_NUMBER(travelmap_nearest_distance(map.at, 0, 0, 0, 0)));
 }
 
+/* The same two wishes in one call, and calls that are refused. */
+static void many_wishes(struct slice map, struct slice result) {
+    static const int16_t two[] = {-3, 0, 0, 5, 5, 5}, cells[] = {-1, 0, 0, -1, 0, 0};
+    struct slice asked = SLICE(two);
+    uint64_t part;
+    fill(result);
+    part = travelmap_nearest_each(LENT(map), asked.at, 5, LENT(result));
+    same("each, no triples", TRAVELMAP_NOT_TRIPLES, TRAVELMAP_NUMBER(part));
+    same("each, no triples, operand", 2, TRAVELMAP_OPERAND(part));
+    same("each, list", 1, TRAVELMAP_OPERAND(travelmap_nearest_each(map.at, 23, LENT(asked), LENT(result))));
+    same("each of the empty list", TRAVELMAP_EMPTY,
+         TRAVELMAP_NUMBER(travelmap_nearest_each(map.at, 0, LENT(asked), LENT(result))));
+    same("each, no room", TRAVELMAP_NO_ROOM,
+         TRAVELMAP_NUMBER(travelmap_nearest_each(LENT(map), LENT(asked), result.at, 5)));
+    same_list("each, refused", cells, 0, result);
+    same("each", 0, (long)travelmap_nearest_each(LENT(map), LENT(asked), LENT(result)));
+    same_list("each, cells", cells, 6, result);
+    free(asked.at);
+}
+
 /* The box, done and refused. */
 static void boxes(struct slice result, struct slice small) {
     fill(result);
@@ -166,6 +186,7 @@ int main(void) {
     struct slice map = SLICE(printed), result = SLICE(room), small = SLICE(short_room);
     asks(map);
     wishes(map);
+    many_wishes(map, result);
     boxes(result, small);
     joins(result, small);
     cuts(map, result, small);

@@ -20,6 +20,11 @@ uint64_t travelmap_nearest(const int16_t *list, size_t length, ASKED) { return U
 uint64_t travelmap_nearest_distance(const int16_t *list, size_t length, ASKED) {
     return UNUSED, (void)first, (void)second, 0;
 }
+uint64_t travelmap_nearest_each(const int16_t *list, size_t length, const int16_t *wishes, size_t wishes_length,
+                                int16_t *result, size_t result_length) {
+    (void)list, (void)length, (void)wishes, (void)wishes_length, (void)result;
+    return (void)result_length, 0;
+}
 uint64_t travelmap_join(uint32_t operation, const int16_t *first, size_t first_length, const int16_t *second,
                         size_t second_length, int16_t *result, size_t result_length) {
     (void)operation, (void)first, (void)first_length, (void)second, (void)second_length, (void)result;

@@ -11,7 +11,7 @@ typedef unsigned long u64;
 typedef unsigned long size_t;
 
 enum { SLICES = 4, BESIDE = 8, MOST = 1 << 16, ALL = SLICES * (MOST + 2 * BESIDE) };
-enum { CHECK, BOX, CELL, CORNER, PLANE, SECTION, SPLIT, JOIN, NEAREST, DISTANCE, PROGRAM };
+enum { CHECK, BOX, CELL, CORNER, PLANE, SECTION, SPLIT, JOIN, NEAREST, DISTANCE, NEAREST_MANY, PROGRAM };
 
 struct call {
     u32 function, word; /* word: the axis, the operation or the bytes of the program's input */
@@ -34,6 +34,7 @@ WEAK u64 travelmap_split(const i16 *, size_t, u32, i16, i16 *, size_t, i16 *, si
 WEAK u64 travelmap_join(u32, const i16 *, size_t, const i16 *, size_t, i16 *, size_t);
 WEAK u64 travelmap_nearest(const i16 *, size_t, i16, i16, i16);
 WEAK u64 travelmap_nearest_distance(const i16 *, size_t, i16, i16, i16);
+WEAK u64 travelmap_nearest_each(const i16 *, size_t, const i16 *, size_t, i16 *, size_t);
 int main(void);
 
 /* What compilers call without being asked. */
@@ -134,6 +135,7 @@ static u64 made(void) {
     case JOIN: return DO(travelmap_join, (c.word, LENT(0), LENT(1), LENT(2)));
     case NEAREST: return DO(travelmap_nearest, (LENT(0), ASKED));
     case DISTANCE: return DO(travelmap_nearest_distance, (LENT(0), ASKED));
+    case NEAREST_MANY: return DO(travelmap_nearest_each, (LENT(0), LENT(1), LENT(2)));
     case PROGRAM: return run();
     default: stop(2);
     }

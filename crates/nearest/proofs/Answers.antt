@@ -17,7 +17,7 @@ use Rattle.meaning.proofs.Checked.{verdict-valid}
 use Rattle.lists.proofs.Vertices.{length-vertices}
 use Rattle.nearest.specs.declared.Found.the-variants.{At}
 use Rattle.nearest.specs.Answer.{Answered}
-use Rattle.nearest.specs.Ranks.{Ranked}
+use Rattle.nearest.specs.Ranks.{Ranked, foundAt}
 use Rattle.nearest.proofs.Promise.{answered-cell}
 use Rattle.nearest.proofs.Ranks.{ranked-nearest}
 
@@ -31,6 +31,5 @@ not-empty ns e h = by (length ns) (length (vertices ns)) (length-vertices ns) (v
     by zero n p q k = absurd (k refl)
     by (suc m) n p q k = omega arith
 
-pub answered : (ns : List ℤ) (w : Cell) (r : ℕ) → verdict ns ≡ Valid → Ranked (vertices ns) w r
-    → Answered ns w (At (number (r / 1048576 % 1024)) (number (r / 1024 % 1024)) (number (r % 1024)) (r / 1073741824))
+pub answered : (ns : List ℤ) (w : Cell) (r : ℕ) → verdict ns ≡ Valid → Ranked (vertices ns) w r → Answered ns w (foundAt r)
 answered ns w r e h = let n = ranked-nearest (vertices ns) (valid-list ns e) w r h in answered-cell ns w (ap passes e) _ _ _ _ (n .0) (n .1)

@@ -35,7 +35,7 @@ use Rattle.ranks.specs.Values.{apart, value, way, Brought}
 use Rattle.cells.specs.Cells.{Best, Depth, Rank, mapIn, sectionIn, planeUnit, rest}
 use Rattle.search.specs.Search.{Even}
 use Rattle.squares.proofs.Runs.{sum-places}
-use Rattle.nearest.specs.Ranks.{rankOf, Ranked}
+use Rattle.nearest.specs.Ranks.{rankOf, Ranked, codeAt}
 use Rattle.ranks.specs.declared.Scale.{Scale}
 use Rattle.ranks.proofs.Costs.{value-small}
 use Rattle.nearest.proofs.Distances.{distance-apart}
@@ -206,13 +206,14 @@ record Parts (n a b d r : ℕ) : Type 0 where
   pub far : r / 1073741824 ≡ n
   pub one : r / 1048576 % 1024 ≡ a
   pub two : r / 1024 % 1024 ≡ b
-  pub three : r % 1024 ≡ d
+  pub three : r / 1 % 1024 ≡ d
 
 parts : (n a b d r : ℕ) → (a < 1024) × (b < 1024) × (d < 1024) → r ≡ n * 1073741824 + (a * 1048576 + b * 1024 + d) → Parts n a b d r
 parts n a b d r k e = record { far = omega arith; one = omega arith; two = omega arith; three = omega arith }
 
+-- the cell of a rank
 abbrev pub cellOf : ℕ → Cell
-cellOf r = cellAt (r / 1048576 % 1024) (r / 1024 % 1024) (r % 1024)
+cellOf r = cell (codeAt r 1048576) (codeAt r 1024) (codeAt r 1)
 
 -- lower among cells is lower among the three codes as one number
 abbrev asOne : ℕ → ℕ → ℕ → ℕ

@@ -2,6 +2,7 @@
 --   rankOf     a cell's distance and codes as one number
 --   Ranked     the least rank of the permitted cells
 --   RankedFor  the same for a wish by its steps above -32768, and that it fits
+--   codeAt     the code that stands at a place of a rank
 --   foundAt    the cell and the distance of a rank, as an answer
 --   Askable    a map that is not empty, and a wish by its steps above -32768
 --   Keyed      the keys of a map that is not empty
@@ -44,8 +45,11 @@ pub record Ranked (l : List Corner) (w : Cell) (r : ℕ) : Type 0 where
 abbrev pub RankedFor : List Corner → ℕ → ℕ → ℕ → ℕ → Type 0
 RankedFor l focus′ first′ second′ r = Ranked l (cell (lowered focus′) (lowered first′) (lowered second′)) r × (r < 2 ^ 62)
 
+abbrev pub codeAt : ℕ → ℕ → ℤ
+codeAt r place = number (r / place % axisCodes)
+
 abbrev pub foundAt : ℕ → Found
-foundAt r = At (number (r / 1048576 % 1024)) (number (r / 1024 % 1024)) (number (r % 1024)) (r / 1073741824)
+foundAt r = At (codeAt r 1048576) (codeAt r 1024) (codeAt r 1) (r / 1073741824)
 
 -- each number of a wish is so many steps above -32768
 abbrev pub Wished : ℕ → ℕ → ℕ → Type 0

@@ -10,7 +10,7 @@ ghost use Rattle.meaning.specs.Verdicts.{verdict};
 ghost use Rattle.lists.specs.Check.{Checked};
 ghost use Rattle.codes.specs.Keys.{ofKey};
 ghost use Rattle.nearest.specs.Answer.{Answered};
-ghost use Rattle.nearest.specs.Ranks.{RankedFor, foundAt, Askable, Wished, Keyed, Located, Rooms, fewVertices};
+ghost use Rattle.nearest.specs.Ranks.{RankedFor, codeAt, foundAt, Askable, Wished, Keyed, Located, Rooms, fewVertices};
 use meaning::MOST_VERTICES;
 use meaning::Verdict;
 use ranks::DISTANCE;
@@ -23,11 +23,11 @@ const FOCUS_WEIGHT: u64 = 1;
 const SHIFT_WEIGHT: u64 = 1;
 
 // What one code counts among cells at the same distance: lowest focus, then first shift, then second.
-const FOCUS_PLACE: u64 = 1048576;
+pub const FOCUS_PLACE: u64 = 1048576;
 
-const FIRST_PLACE: u64 = 1024;
+pub const FIRST_PLACE: u64 = 1024;
 
-const SECOND_PLACE: u64 = 1;
+pub const SECOND_PLACE: u64 = 1;
 
 // A rank above that of every cell.
 const NONE: u64 = 1152921504606846976;
@@ -55,8 +55,8 @@ pub struct Extents {
     pub second: Extent,
 }
 
-// From where to where the map of some keys lies: what is asked once of a map, for all wishes.
-fn extents_of(keys: &[u32]) -> Extents
+// Inner: from where to where the map of some keys lies: what is asked once of a map, for all wishes.
+pub fn extents_of(keys: &[u32]) -> Extents
     requires { ⌜ Keyed (now keys) ⌝ }
     ensures { λ r. ⌜ Located (now (keys .entry)) r ⌝ }
 {
@@ -70,8 +70,8 @@ fn extents_of(keys: &[u32]) -> Extents
     }
 }
 
-// The least rank of the cells of the map of some keys, for a wish that is given by its steps above -32768; room and work are to work in.
-fn rank_of(
+// Inner: the least rank of the cells of the map of some keys, for a wish that is given by its steps above -32768; room and work are to work in.
+pub fn rank_of(
     keys: &[u32],
     extents: Extents,
     focus: u32,
@@ -140,15 +140,22 @@ fn rank_of_many(list: &[i16], focus: u32, first: u32, second: u32) -> u64
     rank_with_room(list, focus, first, second, &mut keys, &mut room, &mut work)
 }
 
+// Inner: the code that stands at a place of a rank.
+pub fn code(rank: u64, place: u64) -> i16
+    requires { ⌜ 0 < place ⌝ }
+    ensures { λ r. ⌜ r ≡ codeAt rank place ⌝ }
+{
+    keys::number_of((rank / place % END as u64) as u32)
+}
+
 // The cell and the distance of a rank.
 fn answer(rank: u64) -> Found
     requires { ⌜ rank < 2 ^ 62 ⌝ }
     ensures { λ r. ⌜ r ≡ foundAt rank ⌝ }
 {
-    let codes = END as u64;
-    let focus = keys::number_of((rank / FOCUS_PLACE % codes) as u32);
-    let first = keys::number_of((rank / FIRST_PLACE % codes) as u32);
-    let second = keys::number_of((rank % codes) as u32);
+    let focus = code(rank, FOCUS_PLACE);
+    let first = code(rank, FIRST_PLACE);
+    let second = code(rank, SECOND_PLACE);
     Found::At(focus, first, second, (rank / DISTANCE) as u32)
 }
 

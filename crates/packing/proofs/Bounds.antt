@@ -1,6 +1,6 @@
 -- What the functions come to fits its bits: the number, the operand, the place and the counts of every outcome.
 --   place-few, values-place         the place of a verdict is that of a vertex of a list that is not too long; what the check carries has it
---   check-few, cell-few, corner-few, box-few, join-few, section-few, split-few, nearest-few    of each function
+--   check-few, cell-few, corner-few, box-few, join-few, section-few, split-few, nearest-few, many-few    of each function
 --   report-few                      the mask has eight bits, and how many and the kind are at most 8
 -- Assumes nothing.
 use mathlib.Core.Path.{_≡_, refl}
@@ -30,6 +30,7 @@ use Rattle.asks.specs.Asks.{reportOn, cellOutcome, cornerOutcome}
 use Rattle.asks.proofs.Planes.{count-le}
 use Rattle.joins.specs.Join.{joinedBy, joinOutcome}
 use Rattle.cuts.specs.Answers.{Halves, halves, sectionPairs, sectionOutcome, lowerList, upperList, placedHalves, splitOutcome}
+use Rattle.wishes.specs.Many.{manyOf, manyOutcome}
 use Rattle.packing.specs.Packed.{Few}
 
 -- ---- the verdict
@@ -167,6 +168,17 @@ module _ (ns : List ℤ) where
       by : (l : List Corner) → Few (nearestOf l w c .values)
       by [] = empty-few
       by (v ∷ l) = done-few
+
+  pub many-few : (ws : List ℤ) (cs : List Cell) (before : List ℤ) → Few (manyOutcome ns ws cs before .values)
+  many-few ws cs before =
+      checked-few 1 ns nothing before _ (omega arith)
+      (either FewIn (eqb (length ws % perVertex) 0) (manyOf (vertices ns) cs before) (kept nothing before (refused 2 NotTriples)) (λ e. by (vertices ns))
+      (none-few 1 2 (omega arith) (omega arith)))
+    where
+      by : (l : List Corner) → Few (manyOf l cs before .values)
+      by [] = empty-few
+      by (v ∷ l) =
+          either FewIn (leb (perVertex * length cs) (length before)) _ (kept nothing before noRoom) (λ e. done-few) (none-few 6 0 (omega arith) (omega arith))
 
 pub box-few : (ends : List (List ℤ)) (before : List ℤ) → Few (boxOutcome ends before .values)
 box-few ends before =

@@ -10,6 +10,7 @@ ghost use Rattle.asks.specs.Asks.{cellValues, cellSays, cornerSays};
 ghost use Rattle.joins.specs.Join.{joinValues};
 ghost use Rattle.cuts.specs.Answers.{sectionValues, splitValues};
 ghost use Rattle.nearest.specs.Answer.{foundValues, foundSays};
+ghost use Rattle.wishes.specs.Many.{manyValues};
 ghost use Rattle.packing.specs.Packed.{Few, packed, packedValues, packedCell, packedCorner, packedPart};
 ghost use Rattle.packing.specs.Packed.{packedNearest, packedDistance};
 use asks::CellAnswer;
@@ -21,6 +22,7 @@ use cuts::Sectioned;
 use joins::Joining;
 use meaning::Verdict;
 use nearest::Found;
+use wishes::Wished;
 
 // Where each value of an answer begins in the packed number.
 const NUMBER: u64 = 1 << 56;
@@ -206,7 +208,7 @@ pub fn pack_split(answer: Halved) -> u64
     }
 }
 
-// The refusal of nearest for the empty list.
+// The refusal of nearest, and of many wishes, for the empty list.
 fn pack_empty() -> u64
     ensures { λ r. ⌜ r ≡ packedValues emptyMap ⌝ }
 {
@@ -239,5 +241,19 @@ pub fn pack_distance(found: Found) -> u64
         Found::At(_, _, _, distance) => distance as u64,
         Found::Empty => pack_empty(),
         Found::Refused(verdict) => pack_refusal(verdict, ONE_LIST),
+    }
+}
+
+// The answer of many wishes.
+pub fn pack_wished(answer: Wished) -> u64
+    requires { ⌜ Few (manyValues answer) ⌝ }
+    ensures { λ r. ⌜ r ≡ packedValues (manyValues answer) ⌝ }
+{
+    match answer {
+        Wished::Done => pack(DONE, 0, 0, 0, 0),
+        Wished::Refused(verdict) => pack_refusal(verdict, ONE_LIST),
+        Wished::NotWishes => pack_refusal(Verdict::NotTriples, SECOND_LIST),
+        Wished::Empty => pack_empty(),
+        Wished::NoRoom => pack(NO_ROOM, 0, 0, 0, 0),
     }
 }

@@ -4,6 +4,7 @@
 --   check-place, check-packed, cell-fits, cell-packed, corner-fits, corner-packed, ends-fit, ends-of, plane-packed    the check and the questions
 --   box-packed, join-fits, join-packed, section-fits, section-packed, split-fits, split-packed               what makes lists
 --   found-fits, found-packed             nearest
+--   many-fits, many-packed               nearest for many wishes
 use mathlib.Core.Path.{_≡_, refl, sym, _∙_, ap, subst}
 use mathlib.Core.Bool.{Bool, true, false, cond}
 use mathlib.Core.List.{List}
@@ -38,9 +39,11 @@ use Rattle.cuts.specs.declared.Sectioned.{Sectioned}
 use Rattle.cuts.specs.declared.Halved.{Halved}
 use Rattle.nearest.specs.Answer.{foundValues, foundSays, Answered}
 use Rattle.nearest.specs.declared.Found.{Found}
+use Rattle.wishes.specs.Many.{manyValues, ManyAnswered}
+use Rattle.wishes.specs.declared.Wished.{Wished}
 use Rattle.packing.specs.Packed.{packedValues, packedCell, packedCorner, packedPart, Few}
-use Rattle.packing.proofs.Bounds.{place-few, values-place, cell-few, corner-few, join-few, section-few, split-few, nearest-few}
-use Rattle.travelmap.specs.Exports.{Exported, threeAxes, CheckPacked, CellPacked, CornerPacked, PlanePacked, BoxPacked, JoinPacked, SectionPacked, SplitPacked, NearestBy}
+use Rattle.packing.proofs.Bounds.{place-few, values-place, cell-few, corner-few, join-few, section-few, split-few, nearest-few, many-few}
+use Rattle.travelmap.specs.Exports.{Exported, threeAxes, CheckPacked, CellPacked, CornerPacked, PlanePacked, BoxPacked, JoinPacked, SectionPacked, SplitPacked, NearestBy, ManyPacked}
 
 -- ---- a signed number that is passed on comes back from its bits
 
@@ -167,3 +170,11 @@ module _ (ns : List ℤ) (f : Found) where
   found-packed pack x y z p q s r h e =
       subst (λ (w : Cell). NearestBy pack ns w r) (back-three cell x y z p q s)
       (record { at = h .at; nearest = h .nearest; answer = e ∙ ap pack (h .is) })
+
+module _ (ns ws before : List ℤ) (made : Wished) (after : List ℤ) (h : ManyAnswered ns ws before made after) where
+  pub many-fits : Few (manyValues made)
+  many-fits = fits-by (h .is) (many-few ns ws (h .cells) before)
+
+  pub many-packed : (r : ℕ) → r ≡ packedValues (manyValues made) → ManyPacked ns ws before r after
+  many-packed r e =
+      let x = exported (h .is) e in record { cells = h .cells; nearest = h .nearest; answer = x .answer; contents = x .contents }

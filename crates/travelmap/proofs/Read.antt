@@ -1,5 +1,5 @@
 -- Every exported answer can be read back, as include/travelmap.h reads it: from the promise of each function to every field of what it comes to.
---   check-read, box-read, join-read, section-read, split-read    number, operand, place and counts
+--   check-read, box-read, join-read, section-read, split-read, many-read    number, operand, place and counts
 --   cell-read, corner-read                                       number, operand, place; yes; mask, how many, kind
 --   plane-read                                                   start and length
 --   nearest-read, distance-read                                  number, operand, place; the three codes; the distance
@@ -34,10 +34,11 @@ use Rattle.boxes.specs.Box.{boxOutcome}
 use Rattle.asks.specs.Asks.{Report, report, reportOn, cellOutcome, cornerOutcome, planeEnds}
 use Rattle.joins.specs.Join.{joinOutcome}
 use Rattle.cuts.specs.Answers.{sectionOutcome, splitOutcome}
+use Rattle.wishes.specs.Many.{manyOutcome}
 use Rattle.packing.specs.Packed.{packedValues, packedReport, packedCodes, packedNearest, Few, bits, numberIn, Reads, ReadsCounts, placeIn, cellIn}
-use Rattle.packing.proofs.Bounds.{refused-few, empty-few, check-few, cell-few, corner-few, report-few, box-few, join-few, section-few, split-few, nearest-few}
+use Rattle.packing.proofs.Bounds.{refused-few, empty-few, check-few, cell-few, corner-few, report-few, box-few, join-few, section-few, split-few, nearest-few, many-few}
 use Rattle.packing.proofs.Back.{Fits, reads-beside, reads-values, reads-part, codes-number, codes-operand, codes-cell}
-use Rattle.travelmap.specs.Exports.{CheckPacked, CellPacked, CornerPacked, PlanePacked, BoxPacked, JoinPacked, SectionPacked, SplitPacked, NearestPacked, DistancePacked}
+use Rattle.travelmap.specs.Exports.{CheckPacked, CellPacked, CornerPacked, PlanePacked, BoxPacked, JoinPacked, SectionPacked, SplitPacked, NearestPacked, DistancePacked, ManyPacked}
 use Rattle.travelmap.proofs.Passing.{ends-of}
 
 -- number, operand, place and the two counts
@@ -52,6 +53,10 @@ box-read ends before r after h = reads-values _ (box-few ends before) r (h .answ
 
 pub join-read : (op : ℕ) (a b before : List ℤ) (r : ℕ) (after : List ℤ) → JoinPacked op a b before r after → ReadsAll r (joinOutcome op a b before .values)
 join-read op a b before r after h = reads-values _ (join-few op a b before) r (h .answer)
+
+pub many-read : (ns ws before : List ℤ) (r : ℕ) (after : List ℤ) (h : ManyPacked ns ws before r after)
+    → ReadsAll r (manyOutcome ns ws (h .cells) before .values)
+many-read ns ws before r after h = reads-values _ (many-few ns ws (h .cells) before) r (h .answer)
 
 module _ (ns : List ℤ) (n : ℕ) where
   pub section-read : (k : ℤ) (before : List ℤ) (r : ℕ) (after : List ℤ) → SectionPacked ns n k before r after

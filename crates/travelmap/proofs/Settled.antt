@@ -1,7 +1,7 @@
 -- Each promise settles its answer, and the contents at exit: any two outcomes that it allows are equal.
 --   exported-settled      of every function that makes lists: box, join, section, split
 --   check-settled, cell-settled, corner-settled, plane-settled, box-settled, join-settled, section-settled, split-settled
---   nearest-settled, distance-settled
+--   nearest-settled, distance-settled, many-settled
 use mathlib.Core.Path.{_≡_, sym, _∙_, ap}
 use mathlib.Core.List.{List}
 use Prim.Native.Nat.{ℕ}
@@ -10,8 +10,9 @@ use Rattle.meaning.specs.Numbers.{Cell, Corner}
 use Rattle.meaning.specs.Outcomes.{Outcome, Nothing}
 use Rattle.meaning.specs.Nearest.{Reached}
 use Rattle.nearest.proofs.Promise.{outcome-once}
-use Rattle.packing.specs.Packed.{packedNearest, packedDistance}
-use Rattle.travelmap.specs.Exports.{Exported, CheckPacked, CellPacked, CornerPacked, PlanePacked, BoxPacked, JoinPacked, SectionPacked, SplitPacked, NearestBy, NearestPacked, DistancePacked}
+use Rattle.wishes.proofs.Answers.{many-once}
+use Rattle.packing.specs.Packed.{packedValues, packedNearest, packedDistance}
+use Rattle.travelmap.specs.Exports.{Exported, CheckPacked, CellPacked, CornerPacked, PlanePacked, BoxPacked, JoinPacked, SectionPacked, SplitPacked, NearestBy, NearestPacked, DistancePacked, ManyPacked}
 
 pub check-settled : (ns : List ℤ) (r s : ℕ) → CheckPacked ns r → CheckPacked ns s → r ≡ s
 check-settled ns r s p q = p ∙ sym q
@@ -54,3 +55,9 @@ nearest-settled = nearest-by packedNearest
 
 pub distance-settled : (ns : List ℤ) (w : Cell) (r s : ℕ) → DistancePacked ns w r → DistancePacked ns w s → r ≡ s
 distance-settled = nearest-by packedDistance
+
+pub many-settled : (ns ws before : List ℤ) (r s : ℕ) (after last : List ℤ) → ManyPacked ns ws before r after → ManyPacked ns ws before s last
+    → (r ≡ s) × (after ≡ last)
+many-settled ns ws before r s after last p q =
+    let e = many-once ns ws before (p .cells) (q .cells) (p .nearest) (q .nearest) in
+    (p .answer ∙ ap (λ o. packedValues (o .values)) e ∙ sym (q .answer), p .contents ∙ ap (λ o. o .left) e ∙ sym (q .contents))

@@ -4,6 +4,7 @@
 --   threeAxes, BoxPacked                                  the box, from its six ends
 --   JoinPacked, SectionPacked, SplitPacked                the join, the section, the split
 --   NearestBy, NearestPacked, DistancePacked              the nearest cell, and how far it is
+--   ManyPacked                                            the nearest cells to many wishes
 use mathlib.Core.Path.{_≡_}
 use mathlib.Core.List.{List, [], _∷_}
 use Prim.Native.Nat.{ℕ}
@@ -16,6 +17,7 @@ use Rattle.boxes.specs.Box.{boxOutcome}
 use Rattle.asks.specs.Asks.{cellOutcome, cornerOutcome, planeEnds}
 use Rattle.joins.specs.Join.{joinOutcome}
 use Rattle.cuts.specs.Answers.{sectionOutcome, halves, splitOutcome}
+use Rattle.wishes.specs.Many.{wishes, EachNearest, manyOutcome}
 use Rattle.packing.specs.Packed.{packedValues, packedCell, packedCorner, packedPart, packedNearest, packedDistance}
 
 -- an answer that gives nothing beside its values
@@ -62,3 +64,10 @@ NearestPacked ns w r = NearestBy packedNearest ns w r
 
 abbrev pub DistancePacked : List ℤ → Cell → ℕ → Type 0
 DistancePacked ns w r = NearestBy packedDistance ns w r
+
+-- with cells that are the nearest to the wishes, if the list is a map that permits any: what the call comes to, packed, and what the result holds
+pub record ManyPacked (ns ws before : List ℤ) (r : ℕ) (after : List ℤ) : Type 0 where
+  pub cells : List Cell
+  pub nearest : EachNearest ns (wishes ws) cells
+  pub answer : r ≡ packedValues (manyOutcome ns ws cells before .values)
+  pub contents : after ≡ manyOutcome ns ws cells before .left

@@ -1,7 +1,8 @@
 // The functions that C and Rust call, on slices of numbers and numbers. Each answers one number that packs document 01's values. It relies on
-// `lists`, `boxes`, `asks`, `joins`, `cuts` and `nearest` for the answers, and on `packing` for the one number. include/travelmap.h declares the same
-// functions for C.
+// `lists`, `boxes`, `asks`, `joins`, `cuts`, `nearest` and `wishes` for the answers, and on `packing` for the one number. include/travelmap.h declares the
+// same functions for C.
 ghost use Rattle.meaning.specs.Numbers.{cell, corner};
+ghost use Rattle.travelmap.specs.Exports.{threeAxes, CheckPacked, CellPacked, CornerPacked, PlanePacked, BoxPacked, JoinPacked, SectionPacked, SplitPacked, NearestPacked, DistancePacked, ManyPacked};
 ghost use Rattle.travelmap.specs.Exports.{threeAxes, CheckPacked, CellPacked, CornerPacked, PlanePacked, BoxPacked, JoinPacked, SectionPacked, SplitPacked, NearestPacked, DistancePacked};
 use nearest::nearest_by;
 use packing::pack_box;
@@ -14,6 +15,7 @@ use packing::pack_part;
 use packing::pack_section;
 use packing::pack_split;
 use packing::pack_verdict;
+use packing::pack_wished;
 
 // Checks a list.
 #[no_mangle]
@@ -117,4 +119,14 @@ pub extern "C" fn travelmap_nearest_distance(
     ensures { λ r. ⌜ DistancePacked (now (list .entry)) (cell focus first second) r ⌝ }
 {
     pack_distance(nearest_by(lists::check(list), list, focus, first, second))
+}
+
+// The permitted cells nearest to the wishes, three numbers each, one cell of three codes for each wish.
+#[no_mangle]
+pub extern "C" fn travelmap_nearest_each(list: &[i16], wishes: &[i16], cells: &mut [i16]) -> u64
+    ensures { λ r. ⌜
+        ManyPacked (now (list .entry)) (now (wishes .entry)) (now (cells .entry)) r (now (cells .exit))
+        ⌝ }
+{
+    pack_wished(wishes::nearest_each(list, wishes, cells))
 }

@@ -67,6 +67,7 @@ pub const FUNCTIONS: &[Function] = &[
     },
     function!("travelmap_nearest", nearest),
     function!("travelmap_nearest_distance", nearest_distance),
+    function!("travelmap_nearest_each", nearest_many),
     Function {
         name: "travel",
         numbers: program::NUMBERS,

@@ -20,6 +20,7 @@ enum Far {
     Join,
     Nearest,
     Distance,
+    NearestMany,
     Program,
 }
 
@@ -194,6 +195,11 @@ pub fn nearest(list: &[i16], wish: [i16; 3]) -> u64 {
 /// The distance from a wish to the nearest permitted cell.
 pub fn nearest_distance(list: &[i16], wish: [i16; 3]) -> u64 {
     call(Far::Distance, 0, &wish, &[list], &mut [])
+}
+
+/// The nearest permitted cells to many wishes.
+pub fn nearest_many(list: &[i16], wishes: &[i16], result: &mut [i16]) -> u64 {
+    call(Far::NearestMany, 0, &[], &[list, wishes], &mut [result])
 }
 
 /// What the program writes for an input. Bytes are sent two to a number.

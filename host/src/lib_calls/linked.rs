@@ -59,6 +59,14 @@ extern "C" {
         first: i16,
         second: i16,
     ) -> u64;
+    fn travelmap_nearest_each(
+        list: *const i16,
+        len: usize,
+        wishes: *const i16,
+        wishes_len: usize,
+        result: *mut i16,
+        result_len: usize,
+    ) -> u64;
 }
 
 /// Checks a list.
@@ -135,6 +143,13 @@ pub fn nearest(list: &[i16], wish: [i16; 3]) -> u64 {
 /// The distance from a wish to the nearest permitted cell.
 pub fn nearest_distance(list: &[i16], wish: [i16; 3]) -> u64 {
     unsafe { travelmap_nearest_distance(list.as_ptr(), list.len(), wish[0], wish[1], wish[2]) }
+}
+
+/// The nearest permitted cells to many wishes.
+pub fn nearest_many(list: &[i16], wishes: &[i16], result: &mut [i16]) -> u64 {
+    let (asked, asked_len) = (wishes.as_ptr(), wishes.len());
+    let (start, len) = (result.as_mut_ptr(), result.len());
+    unsafe { travelmap_nearest_each(list.as_ptr(), list.len(), asked, asked_len, start, len) }
 }
 
 /// The most bytes that the program reads or writes at a time where its input comes in pieces; 19,214 and 19,215 bytes

@@ -18,7 +18,7 @@ use Rattle.lists.proofs.Vertices.{length-vertices}
 use Rattle.nearest.specs.declared.Found.{Found}
 use Rattle.nearest.specs.declared.Found.the-variants.{At}
 use Rattle.nearest.specs.Answer.{Answered}
-use Rattle.nearest.specs.Ranks.{Ranked, Askable}
+use Rattle.nearest.specs.Ranks.{Ranked, Askable, foundAt}
 use Rattle.nearest.proofs.Answers.{valid-list, not-empty, answered}
 use Rattle.nearest.proofs.Promise.{answered-empty}
 use Rattle.nearest.proofs.nearest_of_map.Statement.{statement}
@@ -67,7 +67,7 @@ module _ (c : tie.After-lift3) where
   few = ready .valid .few
 
   -- the answer of the least rank for the wish as it was lifted is the answer for the wish
-  said : (r : ℕ) (f : Found) → f ≡ At (number (r / 1048576 % 1024)) (number (r / 1024 % 1024)) (number (r % 1024)) (r / 1073741824)
+  said : (r : ℕ) (f : Found) → f ≡ foundAt r
       → Ranked (vertices (numbers c)) (cell (lowered (c .before .before .lift .result)) (lowered (c .before .lift2 .result)) (lowered (c .lift3 .result))) r
       → Answered (numbers c) (wish c) f
   said r f e h =
