@@ -1,4 +1,6 @@
 // The lines that the program writes: answers to wishes, and refusals. Inner: what the program builds on.
+#![tactic(auto)]
+
 ghost use Rattle.std.specs.Prelude.{◌≡◌, ◌+◌, ◌*◌, ◌/◌, ◌<◌, ◌≤◌, length};
 ghost use Rattle.std.proofs.Math.Seq.{paste};
 ghost use Rattle.meaning.specs.Numbers.{cell};

@@ -1,5 +1,7 @@
 // Questions about one map: is a cell permitted, what lies round a corner, which vertices stand on a plane. Each checks the list first.
 // It relies on `lists` for the check, on `codes` for the crossing to unsigned numbers, on `kinds` for the kind of a mask.
+#![tactic(auto)]
+
 mod pass;
 
 ghost use Rattle.meaning.specs.Numbers.{cell, corner};

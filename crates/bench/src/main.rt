@@ -1,5 +1,7 @@
 // The worked examples of document 01, asked of the functions that C calls: a line for each answer, with the example's number and what is asked
 // before it. The file stdout beside src/ has what document 01 says. It relies on `travelmap` for the answers, on `asks` for the part of a plane and on `codes` for signs.
+#![tactic(auto)]
+
 mod line;
 mod made;
 mod maps;

@@ -1,4 +1,6 @@
 // The list of a box (document 01, "What can be asked"). It relies on `codes` for the crossing to unsigned numbers.
+#![tactic(auto)]
+
 ghost use Rattle.std.specs.Prelude.{◌≡◌, ◌≤◌, length};
 ghost use Rattle.meaning.specs.Lists.{numbers};
 ghost use Rattle.meaning.specs.Outcomes.{front};

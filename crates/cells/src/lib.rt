@@ -1,6 +1,8 @@
 // The law of the nearest cell along an axis (proofs/Axis.antt), and the least rank of the cells of one line. Inner: what the search for the nearest
 // cell builds on. A line has cells at the wish's code, where an odd number of its numbers lie up to it; else the nearest of them lies just behind a
 // number that it has an odd number of times.
+#![tactic(auto)]
+
 ghost use Rattle.std.specs.Prelude.{◌≡◌, [], ◌*◌, ◌<◌, ◌^◌, min, leb, length, get_or};
 ghost use Rattle.meaning.proofs.Parity.{sum};
 ghost use Rattle.rows.specs.Rows.{bit_at};

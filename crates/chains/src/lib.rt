@@ -1,6 +1,7 @@
 // The first place whose key occurs an odd number of times, in time that grows with the keys alone. A key has a high part and a low part.
 // Places whose keys have one high part are linked to a chain; along a chain each low part has a flag, which is turned where that low part is met.
 // Inner: what crates of the library lend each other. It relies on no order of the keys.
+#![tactic(auto)]
 
 ghost use Rattle.std.specs.Prelude.{◌≡◌, ℕ, ◌<◌, ◌≤◌, min, length, get_or};
 ghost use Rattle.meaning.specs.Lists.{most_vertices};

@@ -1,5 +1,7 @@
 // The one place where a signed number of 16 bits becomes an unsigned one, and back, and a vertex becomes its key.
 // Inner: what other crates build on. It relies on the definitions of `meaning` alone.
+#![tactic(auto)]
+
 ghost use Rattle.std.specs.Prelude.{◌≡◌, true, ◌+◌, ◌*◌, ◌<◌, min, pos, length, get_or};
 ghost use Rattle.meaning.specs.Numbers.{is_number, is_corner, steps};
 ghost use Rattle.codes.specs.Lift.{lifted, lowered};

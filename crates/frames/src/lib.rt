@@ -1,4 +1,6 @@
 // Frames: a line of upper-case hexadecimal digits, ended by byte 0A. Inner: what the reader of maps and the writer of answers build on.
+#![tactic(auto)]
+
 ghost use Rattle.std.specs.Prelude.{◌≡◌, ◌+◌, ◌%◌, ◌≤◌, ◌<◌, length};
 ghost use Rattle.frames.specs.Frames.{digit_value, four_at, line_at, one_at, three_at, digit_of};
 

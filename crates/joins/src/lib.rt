@@ -1,5 +1,7 @@
 // The four operations on two travel maps. The engine is the sweep of report section 4; exclusive or is one merge. It relies on `lists` for the check, on
 // `keys` for lists of keys and on `sweep` for the engine.
+#![tactic(auto)]
+
 ghost use Rattle.std.specs.Prelude.{◌≡◌, ◌*◌, ◌/◌, ◌≤◌, min, length};
 ghost use Rattle.meaning.specs.Lists.{vertices, most_vertices, Valid};
 ghost use Rattle.meaning.specs.Outcomes.{per_vertex};

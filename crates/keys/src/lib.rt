@@ -1,5 +1,7 @@
 // Between lists of numbers and rising lists of keys. Inner: what other crates build on. It relies on `codes` for the crossing between
 // signed numbers and unsigned ones and for the key of a vertex.
+#![tactic(auto)]
+
 ghost use Rattle.std.specs.Prelude.{◌≡◌, true, ◌++◌, map, ◌*◌, ◌≤◌, length, drop};
 ghost use Rattle.meaning.specs.Numbers.{is_corner, number};
 ghost use Rattle.meaning.specs.Counting.{All};

@@ -1,4 +1,6 @@
 // The kind of a corner from the mask of its eight cells, and how many of the eight are permitted. Inner: other crates call it.
+#![tactic(auto)]
+
 ghost use Rattle.std.specs.Prelude.{◌≡◌};
 ghost use Rattle.std.specs.Int.Count.{ones};
 ghost use Rattle.meaning.specs.Kinds.{kind};

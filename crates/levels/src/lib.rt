@@ -1,6 +1,8 @@
 // Inner: the sweep over planes (report, section 4), with what changes in place of whole sections. At each plane it goes through the lines of the two
 // sections and of the two operands' planes, by rows of bits, and puts out the keys at which the operation changes. Sections of the result are not
 // kept. It relies on `turn` for planes and sections of the operands, and on `rows` for lines.
+#![tactic(auto)]
+
 ghost use Rattle.std.specs.Prelude.{◌≡◌, ◌+◌, ◌-◌, ◌*◌, ◌%◌, ◌≤◌, ◌<◌, ◌^◌, min, length, get_or};
 ghost use Rattle.meaning.specs.Counting.{All};
 ghost use Rattle.rising.specs.Merged.{less_base};

@@ -1,6 +1,7 @@
 // Lines with an odd number of vertices: of a slice of numbers, the first place whose number occurs an odd number of times.
 // Inner: what crates of the library lend each other. A table of hashed keys is quick to show that every key occurs an even number of times.
 // Where it does not, chains find the place. Nothing relies on an order of the numbers or on a property of the hashing.
+#![tactic(auto)]
 
 ghost use Rattle.std.specs.Prelude.{◌≡◌, true, false, [], ℕ, ◌<◌, ◌≤◌, ◌%◌, eqb, length, get_or};
 ghost use Rattle.meaning.specs.Counting.{count, odd};

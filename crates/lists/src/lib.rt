@@ -1,4 +1,6 @@
 // The check of a list. It relies on `codes` for numbers and keys and on `lines` for odd lines.
+#![tactic(auto)]
+
 ghost use Rattle.std.specs.Prelude.{◌≡◌, true, ◌+◌, ◌*◌, ◌<◌, ◌≤◌, pos, length, get_or};
 ghost use Rattle.meaning.specs.Numbers.{Axis, is_number, is_corner};
 ghost use Rattle.meaning.specs.Counting.{first};

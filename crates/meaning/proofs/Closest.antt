@@ -112,6 +112,7 @@ in_grid c h =
     widen z k = and_both (le_z lowest z) _ (and_left (le_z lowest z) _ k) (le_z_trans z last_code last_number (and_right (le_z lowest z) _ k) refl)
 
 all_at : (Q : Corner → Type 0) (v : Corner) (l : List Corner) → Memᴰ v l → All Q l → Q v
+all_at Q v [] m h = elim m [ ]
 all_at Q v (u ∷ l) (Memᴰ.head e) h = subst Q (sym e) h.0
 all_at Q v (u ∷ l) (Memᴰ.tail m) h = all_at Q v l m h.1
 

@@ -106,10 +106,12 @@ module _ {Pt : Type 0} (O : Order Pt) where
       go false h k r = Memᴰ.tail (r k)
 
   member_all : (Q : Pt → Type 0) (v : Pt) (l : List Pt) → Memᴰ v l → All Q l → Q v
+  member_all Q v [] m h = elim m [ ]
   member_all Q v (w ∷ l) (Memᴰ.head e) h = subst Q (sym e) h.0
   member_all Q v (w ∷ l) (Memᴰ.tail m) h = member_all Q v l m h.1
 
   pub member_occ : (v : Pt) (l : List Pt) → Up l → Memᴰ v l → occ v l ≡ true
+  member_occ v [] h m = elim m [ ]
   member_occ v (w ∷ l) h (Memᴰ.head e) = ap (λ x. occ x (w ∷ l)) e ∙ occ_head w l h.0
   member_occ v (w ∷ l) h (Memᴰ.tail m) = ap₂ ◌⊕◌ (apart v w (member_all (λ u. O.lt w u ≡ true) v l m h.0)) (member_occ v l h.1 m)
 

@@ -1,5 +1,6 @@
 // What the check of a list can say, as code and definitions share it. Everything else of this crate is definitions (specs/)
 // and their laws (proofs/): there is no engine here.
+#![tactic(auto)]
 
 // The most vertices that a list may have: `most_vertices` of specs/Lists.antt, for array lengths and tests.
 pub const MOST_VERTICES: usize = 1024;

@@ -1,5 +1,7 @@
 // The nearest permitted cell to a wish (document 01, demand 3). It relies on `lists` for the check, on `keys` for the keys of a list and on
 // `search` for the least rank among the cells that they permit.
+#![tactic(auto)]
+
 ghost use Rattle.std.specs.Prelude.{◌≡◌, map, ◌<◌, ◌≤◌, ◌^◌, length};
 ghost use Rattle.meaning.specs.Numbers.{cell};
 ghost use Rattle.meaning.specs.Lists.{vertices};

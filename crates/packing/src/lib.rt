@@ -1,5 +1,7 @@
 // Inner: the answers of the library's functions, each packed into one number with document 01's values. It relies on the crates of the answers for
 // their types, and on `words` for signed numbers.
+#![tactic(auto)]
+
 ghost use Rattle.std.specs.Prelude.{◌≡◌, ◌*◌, ◌≤◌};
 ghost use Rattle.meaning.specs.Lists.{most_vertices};
 ghost use Rattle.meaning.specs.Verdicts.{refusal_number, refusal_place};

@@ -1,5 +1,7 @@
 // Keys along an axis: what a section and the halves of a split are made of. Inner: what cuts builds on. It relies on `keys` for the way
 // from a list to keys, and on `rising` for the merge.
+#![tactic(auto)]
+
 ghost use Rattle.std.specs.Prelude.{◌++◌, map, ◌≡◌, ◌*◌, ◌≤◌, length, drop};
 ghost use Rattle.meaning.specs.Numbers.{number};
 ghost use Rattle.meaning.specs.Counting.{All};

@@ -1,5 +1,7 @@
 // What the codes of one axis count in a rank, and from where to where a map lies on it. Inner: what the search for the nearest cell builds on.
 // A rank is one number for the distance of a cell and, among equals, its focus, first and second shift: the sum of one value for each axis.
+#![tactic(auto)]
+
 ghost use Rattle.std.specs.Prelude.{◌≡◌, ℕ, ◌<◌, ◌≤◌, min, max, length, get_or};
 ghost use Rattle.keys.specs.Parts.{axis_at, part_on};
 ghost use Rattle.ranks.specs.Values.{axis_codes, apart, Near, value, Sound, Valued, behind, way, Brought};

@@ -1,5 +1,7 @@
 // The reader of map text and of wishes: frames at the places where they are due, checked in document 01's order. Inner: what the program
 // builds on. A line that is well formed has a known length, so each line's place follows from its number.
+#![tactic(auto)]
+
 ghost use Rattle.std.specs.Prelude.{◌≡◌, ◌*◌, ◌≤◌, List, ℤ, length, take};
 ghost use Rattle.meaning.specs.Counting.{first};
 ghost use Rattle.reading.specs.Reading.{ill_at, numbers_from, closing_sum, by_verdict, counted, map_text, wish_text};

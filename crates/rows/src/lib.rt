@@ -1,5 +1,7 @@
 // Inner: rows of bits. A row has a bit for each number of a line, from a first one on: whether an odd number of keys so far lie at or below it. Two
 // rows stand for the sections of two operands and two for what a plane turns of them; where that changes the operation, keys are put out.
+#![tactic(auto)]
+
 ghost use Rattle.std.specs.Prelude.{◌≡◌, true, ℕ, ◌+◌, ◌*◌, ◌≤◌, ◌<◌, ◌^◌, length, drop};
 ghost use Rattle.meaning.specs.Counting.{All};
 ghost use Rattle.rising.specs.Merged.{From};

@@ -1,5 +1,7 @@
 // The least rank among the cells that a list of keys permits: those at the wish's focus, and those just behind each plane, where the plane's own
 // pairs are taken by themselves. Inner: what `nearest` builds on. It relies on `squares` for lists of pairs and on `rising` for the one section.
+#![tactic(auto)]
+
 ghost use Rattle.std.specs.Prelude.{map, ◌<◌, ◌≤◌, length};
 ghost use Rattle.rising.specs.Merged.{From, norm};
 ghost use Rattle.rising.specs.Placed.{Front};

@@ -1,5 +1,7 @@
 // The least rank of the squares of a rising list of pairs: on the wish's own line, and just behind each line that the pairs lie on, where its own
 // numbers are taken by themselves. Inner: what the search for the nearest cell builds on. It relies on `cells` for the law and for lines.
+#![tactic(auto)]
+
 ghost use Rattle.std.specs.Prelude.{◌<◌, ◌≤◌, ◌^◌, length};
 ghost use Rattle.rising.specs.Merged.{less_base};
 ghost use Rattle.ranks.specs.Values.{axis_codes, Sound};

@@ -1,5 +1,7 @@
 // Inner: two valid lists joined by the sweep of report section 4, plane by plane, with both maps' planes at one number taken together. It relies on
 // `keys` for lists of keys and on `levels` for the sweep, and has the working room for it.
+#![tactic(auto)]
+
 ghost use Rattle.std.specs.Prelude.{◌*◌, ◌≤◌, length};
 ghost use Rattle.meaning.specs.Lists.{vertices, Valid};
 ghost use Rattle.sweep.specs.Room.{Working, InRoom};

@@ -1,5 +1,7 @@
 // What the program answers to its input: the text form of a map and of wishes, read and answered. It relies on crate `reading` for the checks in
 // their order, and on crate `answers` for the lines that are written.
+#![tactic(auto)]
+
 ghost use Rattle.std.specs.Prelude.{◌≡◌, ◌≤◌, length};
 ghost use Rattle.meaning.specs.Verdicts.{verdict};
 ghost use Rattle.reading.specs.Reading.{wish_text};

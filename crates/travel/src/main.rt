@@ -1,5 +1,7 @@
 // The program `travel`: standard input is map text and wishes, standard output the answers. It only reads, calls and writes: what is written
 // for each input is `respond`'s promise, in crate `text`. It has no status of its own: where the output takes nothing, it ends all the same.
+#![tactic(auto)]
+
 use libc::{STDIN_FILENO, STDOUT_FILENO};
 use text::{MOST_BYTES, MOST_WRITTEN};
 

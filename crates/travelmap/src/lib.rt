@@ -1,6 +1,8 @@
 // The functions that C and Rust call, on slices of numbers and numbers. Each answers one number that packs document 01's values. It relies on
 // `lists`, `boxes`, `asks`, `joins`, `cuts`, `nearest` and `wishes` for the answers, and on `packing` for the one number. include/travelmap.h declares the
 // same functions for C.
+#![tactic(auto)]
+
 ghost use Rattle.meaning.specs.Numbers.{cell, corner};
 ghost use Rattle.travelmap.specs.Exports.{three_axes, CheckPacked, CellPacked, CornerPacked, PlanePacked, BoxPacked};
 ghost use Rattle.travelmap.specs.Exports.{JoinPacked, SectionPacked, SplitPacked, NearestPacked, DistancePacked, ManyPacked};

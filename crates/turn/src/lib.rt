@@ -1,5 +1,7 @@
 // Inner: what one turn of a sweep does with its operands. A sweep reads two rising lists of keys plane by plane. A turn finds the next plane and takes
 // it into the sections of the two operands.
+#![tactic(auto)]
+
 ghost use Rattle.std.specs.Prelude.{◌≡◌, ◌+◌, ◌-◌, ◌≤◌, ◌<◌, ◌^◌, length, take, drop};
 ghost use Rattle.meaning.specs.Counting.{All};
 ghost use Rattle.rising.specs.Merged.{From};

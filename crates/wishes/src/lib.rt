@@ -1,5 +1,7 @@
 // The nearest permitted cells to many wishes of one map: the list is checked, and its keys are read, once. It relies on `lists` for the check, on `keys` for
 // the keys of a list and on `nearest` for the least rank of a wish.
+#![tactic(auto)]
+
 ghost use Rattle.std.specs.Prelude.{map, ◌+◌, ◌≤◌, ◌<◌, length};
 ghost use Rattle.meaning.specs.Lists.{vertices};
 ghost use Rattle.codes.specs.Keys.{of_key};
