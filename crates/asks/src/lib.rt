@@ -10,7 +10,7 @@ ghost use Rattle.asks.specs.Asks.{CellPromise, CornerPromise, PlanePromise, Ends
 use meaning::Verdict;
 
 // What the cell query answers.
-#[derive(Drop)]
+#[derive(Clone, Copy)]
 pub enum CellAnswer {
     // The cell is permitted.
     Yes,
@@ -22,7 +22,7 @@ pub enum CellAnswer {
 
 // What the corner report answers: the verdict on the list and, where it is valid, the mask of the eight cells round the corner, how many of
 // them are permitted, and the kind.
-#[derive(Drop)]
+#[derive(Clone, Copy)]
 pub struct CornerAnswer {
     pub verdict: Verdict,
     pub mask: u8,
@@ -31,7 +31,7 @@ pub struct CornerAnswer {
 }
 
 // Where a part of a list stands: from start to before end.
-#[derive(Drop)]
+#[derive(Clone, Copy)]
 pub struct Ends {
     pub start: usize,
     pub end: usize,

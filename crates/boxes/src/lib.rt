@@ -9,7 +9,7 @@ ghost use Rattle.boxes.specs.Box.{good_end, good_ends, box_vertices, BoxMade};
 use codes::{HIGHEST, LOWEST};
 
 // What making a box answers.
-#[derive(Drop)]
+#[derive(Clone, Copy)]
 pub enum Boxed {
     // The eight vertices stand at the front of the result.
     Done,

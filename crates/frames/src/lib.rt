@@ -43,14 +43,14 @@ const THIRD_NUMBER: usize = SECOND_NUMBER + DIGITS;
 const FRAME: usize = TAG + 1;
 
 // One number, or ill formed.
-#[derive(Drop)]
+#[derive(Clone, Copy)]
 pub enum One {
     Ill,
     Number(u16),
 }
 
 // Three numbers, or ill formed.
-#[derive(Drop)]
+#[derive(Clone, Copy)]
 pub enum Three {
     Ill,
     Numbers(u16, u16, u16),

@@ -13,7 +13,7 @@ use meaning::{MOST_VERTICES, Verdict};
 use sweep::FEW;
 
 // What a join answers.
-#[derive(Drop)]
+#[derive(Clone, Copy)]
 pub enum Joining {
     // The list stands at the front of the result; it has so many vertices.
     Done(usize),

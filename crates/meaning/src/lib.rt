@@ -6,7 +6,7 @@
 pub const MOST_VERTICES: usize = 1024;
 
 // The verdict on a list of numbers, with the place of the first offending vertex where there is one.
-#[derive(Drop)]
+#[derive(Clone, Copy)]
 pub enum Verdict {
     // The list is a travel map.
     Valid,

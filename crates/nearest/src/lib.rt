@@ -36,7 +36,7 @@ const NUMBERS: usize = 3;
 const SMALL: usize = 32;
 
 // What nearest answers.
-#[derive(Drop)]
+#[derive(Clone, Copy)]
 pub enum Found {
     // The nearest cell by its codes, and its distance.
     At(i16, i16, i16, u32),
@@ -47,7 +47,7 @@ pub enum Found {
 }
 
 // From where to where a map lies on the three axes.
-#[derive(Drop)]
+#[derive(Clone, Copy)]
 pub struct Extents {
     pub focus: Extent,
     pub first: Extent,

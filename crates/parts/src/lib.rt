@@ -18,7 +18,7 @@ use codes::{LINE, PLANE};
 use keys::{FIRST_SHIFT, FOCUS};
 
 // How many keys the two halves of a split have.
-#[derive(Drop)]
+#[derive(Clone, Copy)]
 pub struct Halves {
     pub lower: usize,
     pub upper: usize,

@@ -17,7 +17,7 @@ const LOWEST: u32 = codes::LOWEST as u32;
 pub const DISTANCE: u64 = 1073741824;
 
 // How the codes of an axis count: the wish as a code from 0, what one code counts as distance, and what it counts among equals.
-#[derive(Drop)]
+#[derive(Clone, Copy)]
 pub struct Scale {
     pub wish: u32,
     pub weight: u64,
@@ -101,7 +101,7 @@ pub fn beyond(wish: u32, scale: Scale) -> u64
 }
 
 // The lowest and the highest number on an axis, counted from 0.
-#[derive(Drop)]
+#[derive(Clone, Copy)]
 pub struct Extent {
     pub low: u32,
     pub high: u32,

@@ -59,7 +59,7 @@ const ILL_FORMED: usize = 10;
 const WRONG_SUM: usize = 11;
 
 // What reading comes to.
-#[derive(Drop)]
+#[derive(Clone, Copy)]
 pub enum Read {
     // Refused: document 01's number, and the place.
     Refused(usize, usize),

@@ -85,7 +85,7 @@ pub fn take_in(
 }
 
 // Where the next plane of two operands begins, and where each operand leaves it.
-#[derive(Drop)]
+#[derive(Clone, Copy)]
 pub struct Plane {
     pub base: u32,
     pub a: usize,

@@ -19,7 +19,7 @@ const NUMBERS: usize = 3;
 const SMALL: usize = 32;
 
 // What many wishes are answered.
-#[derive(Drop)]
+#[derive(Clone, Copy)]
 pub enum Wished {
     // The cells stand at the front of the result, one for each wish.
     Done,
