@@ -2,17 +2,17 @@
 --   verdict_valid          the verdict is Valid exactly when the numbers come in threes and their vertices are a valid list
 --   passed, passes_valid   a verdict that passes is Valid, and the list is then a valid one
 -- Assumes nothing.
-use mathlib.Core.Path.{◌≡◌, refl, sym, ◌∙◌, ap, ap₂, subst}
+use mathlib.Core.Path.{◌≡◌, refl, sym, ◌∙◌, ap, ap₂}
 use mathlib.Core.Logic.{◌↔◌}
-use mathlib.Core.Bool.{Bool, true, false, not, ◌&&◌, ◌||◌, cond, true≢false, false≢true}
+use mathlib.Core.Bool.{Bool, true, false, not, ◌||◌, cond, true≢false, false≢true}
 use mathlib.Core.List.{List, [], ◌∷◌}
-use Prim.Native.Nat.{ℕ, zero, suc, ◌+◌, ◌%◌, ◌≤◌, ◌<◌}
+use Prim.Native.Nat.{ℕ, zero, suc, ◌%◌, ◌≤◌, ◌<◌}
 use native.Mathlib.Omega.{arith}
 use lib.IntN.{ℤ}
-use lib.Dec.{ltb, leb, eqb}
+use lib.Dec.{ltb, eqb}
 use lib.ListN.{length}
-use borrow.Author.Tests.{ltb-true, ltb-false, lt-ltb, le-ltb, leb-true, leb-false, eq-eqb, eqb-true}
-use Rattle.meaning.specs.Numbers.{Axis, focus, first as first_shift, second, Corner, Pair, pair_of, is_corner}
+use borrow.Author.Tests.{ltb-true, ltb-false, le-ltb, eq-eqb, eqb-true}
+use Rattle.meaning.specs.Numbers.{Axis, focus, first as first_shift, second, Corner, pair_of, is_corner}
 use Rattle.meaning.specs.Counting.{All, first, odd, count}
 use Rattle.meaning.specs.Lists.{vertices, below, Rising, on_line, odd_line, same_pair, most_vertices, Valid}
 use Rattle.meaning.specs.Verdicts.{at, outside_at, falls_at, on_odd_line_at, unless_at, verdict_of, verdict, passes, refusal_number}

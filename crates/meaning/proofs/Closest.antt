@@ -2,18 +2,18 @@
 --   nearest_unique, nearest_distance   any two nearest cells are equal, and so are their distances
 --   nearest_iff                        there is a nearest cell exactly when there is a cell at all
 -- Assumes nothing.
-use mathlib.Core.Path.{◌≡◌, refl, sym, ◌∙◌, ap, ap₂, subst}
-use mathlib.Core.Logic.{◌↔◌, ◌⊎◌, inl, inr}
-use mathlib.Core.Bool.{Bool, true, false, not, ◌&&◌, ◌||◌, true≢false, false≢true}
-use mathlib.Core.List.{List, [], ◌∷◌, map, Memᴰ}
-use Prim.Native.Nat.{ℕ, suc, ◌≤◌, ◌<◌}
+use mathlib.Core.Path.{◌≡◌, refl, sym, ◌∙◌, ap, subst}
+use mathlib.Core.Logic.{◌↔◌}
+use mathlib.Core.Bool.{Bool, true, false, true≢false}
+use mathlib.Core.List.{List, [], ◌∷◌, Memᴰ}
+use Prim.Native.Nat.{ℕ}
 use native.Mathlib.Nat.{le_antisymm}
 use native.Mathlib.Omega.{arith}
 use lib.Dec.{ltb, eqb}
 use lib.IntN.{ℤ}
 use lib.Signed.{le_z}
-use borrow.Author.Tests.{ltb-true, ltb-false, lt-ltb, le-ltb, eq-eqb, ne_eqb, eqb-true}
-use Rattle.meaning.specs.Numbers.{Cell, Corner, cell, corner, is_code, is_cell, is_number, is_corner, lowest, last_code, last_number}
+use borrow.Author.Tests.{ltb-true, ltb-false, lt-ltb, eq-eqb, ne_eqb, eqb-true}
+use Rattle.meaning.specs.Numbers.{Cell, Corner, cell, corner, is_code, is_cell, is_number, lowest, last_code, last_number}
 use Rattle.meaning.specs.Counting.{All}
 use Rattle.meaning.specs.Lists.{below}
 use Rattle.meaning.specs.OneList.{WithinCodes}

@@ -15,7 +15,6 @@ use lib.IntN.{ℤ, pos, negsuc}
 use lib.ListN.{length}
 use lib.Signed.{le_z, lt_z}
 use Rattle.meaning.specs.Numbers.{Axis, focus, first, second, Cell, code_on}
-use Rattle.meaning.specs.Counting.{All}
 use Rattle.meaning.specs.Lists.{most_vertices}
 use Rattle.meaning.specs.Verdicts.{verdict}
 use Rattle.meaning.specs.OneList.{one_list_over, one_list}

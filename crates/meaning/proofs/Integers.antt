@@ -1,15 +1,14 @@
 -- The integers as the line of numbers on one axis: the order's tests, and the shift to counting from 0.
 -- Assumes nothing.
 use mathlib.Core.Path.{◌≡◌, refl, sym, ◌∙◌, ap, ap₂}
-use mathlib.Core.Logic.{◌⊎◌, inl, inr}
-use mathlib.Core.Bool.{Bool, true, false, not, ◌&&◌, ◌||◌, cond, true≢false, false≢true, and-true, and-false}
+use mathlib.Core.Bool.{Bool, true, false, not, ◌&&◌, cond, true≢false, false≢true}
 use Prim.Native.Nat.{ℕ, zero, suc, ◌+◌, ◌-◌, ◌≤◌, ◌<◌}
 use native.Mathlib.Nat.{le_antisymm}
 use native.Mathlib.Omega.{arith}
-use lib.Dec.{leb, ltb, eqb, T, leb-suc-suc}
-use lib.IntN.{ℤ, pos, negsuc, pred_ℤ, sub_ℕ}
+use lib.Dec.{leb, ltb}
+use lib.IntN.{ℤ, pos, negsuc, pred_ℤ}
 use lib.Signed.{le_z, lt_z}
-use borrow.Author.Tests.{leb-true, leb-false, ltb-true, ltb-false, le-leb, lt-leb, lt-ltb, le-ltb}
+use borrow.Author.Tests.{leb-true, leb-false, ltb-true, ltb-false, le-leb, lt-leb}
 use Rattle.meaning.specs.Numbers.{lowest, last_code, last_number, is_code, is_number, number, steps}
 use Rattle.meaning.specs.Lists.{same}
 use Rattle.meaning.proofs.Parity.{◌⊕◌}

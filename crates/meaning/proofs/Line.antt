@@ -5,17 +5,17 @@ use mathlib.Core.Bool.{Bool, true, false, not, ◌&&◌, true≢false, and-true,
 use mathlib.Core.List.{List, [], ◌∷◌, ◌++◌, map}
 use Prim.Native.Nat.{ℕ, zero, suc, ◌≤◌, ◌<◌, min}
 use native.Mathlib.Omega.{arith}
-use lib.Dec.{leb, ltb}
-use lib.IntN.{ℤ, pos, negsuc, pred_ℤ}
+use lib.Dec.{leb}
+use lib.IntN.{ℤ, negsuc, pred_ℤ}
 use lib.Signed.{le_z, lt_z}
-use borrow.Author.Tests.{leb-true, leb-false, ltb-true, le-leb, lt-leb, lt-ltb, le-ltb}
+use borrow.Author.Tests.{leb-true, leb-false, le-leb, lt-leb, lt-ltb, le-ltb}
 use Rattle.meaning.specs.Numbers.{lowest, is_code, is_number, number, steps}
 use Rattle.meaning.specs.Counting.{All, upto}
 use Rattle.meaning.specs.Lists.{same}
 use Rattle.meaning.specs.OneList.{corner_numbers}
 use Rattle.meaning.proofs.Parity.{◌⊕◌, ⊕-false, ⊕-self, ⊕-assoc, ⊕-swap, sum, sum_append, sum_ext, sum_false, sum_map}
-use Rattle.meaning.proofs.Integers.{le_z_refl, same_refl, same_sound, lt_z_trans, lt_z_le_z, lt_z_le, lt_z_total, line_step, number_le, number_lt, number_same, number_steps, number_pred, number_is_code, number_is_number, under_lowest, not_yes, and_left}
-use Rattle.meaning.proofs.Space.{Order, Up, occ, Space, all_map, all_append}
+use Rattle.meaning.proofs.Integers.{same_refl, same_sound, lt_z_trans, lt_z_le_z, lt_z_le, lt_z_total, line_step, number_le, number_lt, number_same, number_steps, number_pred, number_is_code, number_is_number, under_lowest, not_yes, and_left}
+use Rattle.meaning.proofs.Space.{Order, Up, Space, all_append}
 
 abbrev pub line_order : Order ℤ
 line_order =

@@ -8,9 +8,9 @@
 --   upper_raise, lower_rest           the upper half is every vertex raised to the cut, the lower half the rest
 --   is_one_pairs                      a rising list of pairs that permits a set of squares within the codes is its one list
 -- Assumes nothing.
-use mathlib.Core.Path.{◌≡◌, refl, sym, ◌∙◌, ap, ap₂, subst}
+use mathlib.Core.Path.{◌≡◌, refl, sym, ◌∙◌, ap, ap₂}
 use mathlib.Core.Bool.{Bool, true, false, not, ◌&&◌, ◌||◌, cond, and-false, false≢true}
-use mathlib.Core.List.{List, [], ◌∷◌, ◌++◌, map}
+use mathlib.Core.List.{List, ◌++◌, map}
 use lib.IntN.{ℤ}
 use lib.Signed.{le_z, lt_z}
 use Rattle.meaning.specs.Numbers.{Axis, focus, first, second, Cell, Corner, Square, Pair, corner, code_on, number_on, square_of, pair_of, across, upright, is_code, is_cell, is_corner}
@@ -18,7 +18,7 @@ use Rattle.meaning.specs.Counting.{keep, All}
 use Rattle.meaning.specs.Lists.{at_or_below, permitted}
 use Rattle.meaning.specs.OneList.{one_pairs, each, WithinCodes, SquaresWithin}
 use Rattle.meaning.specs.Operations.{Operation, union, overlap, without, exclusive, holds, join, section_at, lower_half, upper_half}
-use Rattle.meaning.proofs.Parity.{◌⊕◌, ⊕-false, ⊕-self, sum, sum_append, sum_all, sum_ext, sum_map, sum_each, sum_keep, sum_and}
+use Rattle.meaning.proofs.Parity.{◌⊕◌, ⊕-false, ⊕-self, sum, sum_append, sum_ext, sum_map, sum_each, sum_keep, sum_and}
 use Rattle.meaning.proofs.Integers.{le_z_trans, le_z_total, lt_z_not, and_left, and_right, and_both}
 use Rattle.meaning.proofs.Space as Space
 use Rattle.meaning.proofs.Space.{Up, occ, permits, sum_grid}

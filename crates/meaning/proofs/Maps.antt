@@ -8,23 +8,23 @@
 --   is_one_list            a rising list that permits a set within the codes is its one list
 --   empty_iff              a valid list is empty exactly when it permits nothing
 -- Assumes nothing.
-use mathlib.Core.Path.{◌≡◌, refl, sym, ◌∙◌, ap, ap₂, subst, fun_ext}
-use mathlib.Core.Logic.{◌↔◌, ◌⊎◌, inl, inr}
-use mathlib.Core.Bool.{Bool, true, false, not, ◌&&◌, true≢false, false≢true}
+use mathlib.Core.Path.{◌≡◌, refl, sym, ◌∙◌, ap, subst, fun_ext}
+use mathlib.Core.Logic.{◌↔◌}
+use mathlib.Core.Bool.{Bool, true, false, ◌&&◌, true≢false}
 use mathlib.Core.List.{List, [], ◌∷◌, map, Memᴰ, cons≢nil}
-use Prim.Native.Nat.{ℕ, ◌≤◌}
-use lib.IntN.{ℤ, pos}
-use lib.Signed.{le_z, lt_z}
+use Prim.Native.Nat.{◌≤◌}
+use lib.IntN.{pos}
+use lib.Signed.{le_z}
 use lib.ListN.{length}
-use Rattle.meaning.specs.Numbers.{Axis, focus, first, second, Cell, Corner, Square, Pair, code_on, number_on, square_of, pair_of, across, upright, is_code, is_number, is_cell, is_corner, lowest, last_code, last_number}
-use Rattle.meaning.specs.Counting.{odd, count, All}
+use Rattle.meaning.specs.Numbers.{Axis, focus, first, second, Cell, Corner, code_on, number_on, square_of, pair_of, across, upright, is_code, is_number, is_cell, is_corner, lowest, last_code, last_number}
+use Rattle.meaning.specs.Counting.{All}
 use Rattle.meaning.specs.Lists.{at_or_below, permitted, listed, surrounding, Rising, on_line, odd_line, same_pair, most_vertices, Valid}
 use Rattle.meaning.specs.OneList.{one_list, WithinCodes}
-use Rattle.meaning.proofs.Parity.{sum, odd_count, sum_all, sum_ext, sum_map, sum_some}
+use Rattle.meaning.proofs.Parity.{odd_count, sum_all, sum_ext, sum_map, sum_some}
 use Rattle.meaning.proofs.Integers.{le_z_trans, under_number, not_yes, and_left, and_right, and_both}
 use Rattle.meaning.proofs.Space as Space
 use Rattle.meaning.proofs.Space.{all_map, permits, occ, vanish}
-use Rattle.meaning.proofs.Solid.{plane, solid, solid_fits, permitted_sum, listed_diff, along, pair_upright, code_across, square_across, cell_eta, rising_up, up_rising, one_list_one_of}
+use Rattle.meaning.proofs.Solid.{plane, solid, solid_fits, permitted_sum, listed_diff, along, pair_upright, code_across, square_across, rising_up, up_rising, one_list_one_of}
 
 -- what a list permits, in the solid's terms
 pub permits_permitted : (l : List Corner) (c : Cell) → permits solid l c ≡ permitted l c

@@ -6,17 +6,16 @@
 --   checked_values                  where nothing follows the check, its values are those of the verdict
 --   placed_fits, placed_short       a list that fits, and one that does not
 -- Assumes nothing.
-use mathlib.Core.Path.{◌≡◌, refl, sym, ◌∙◌, ap, ap₂}
-use mathlib.Core.Bool.{Bool, true, false, cond}
+use mathlib.Core.Path.{◌≡◌, refl, sym, ◌∙◌, ap}
+use mathlib.Core.Bool.{true, false, cond}
 use mathlib.Core.List.{List}
-use Prim.Native.Nat.{ℕ, zero, suc, ◌*◌}
-use lib.Dec.{eqb}
+use Prim.Native.Nat.{ℕ, zero, suc}
 use lib.IntN.{ℤ}
 use lib.ListN.{length}
 use Rattle.meaning.specs.Verdicts.{passes, refusal_number, refusal_place}
 use Rattle.meaning.specs.declared.Verdict.{Verdict}
 use Rattle.meaning.specs.declared.Verdict.TheVariants.{Valid, NotTriples, TooMany, OutOfRange, NotRising, OddLine}
-use Rattle.meaning.specs.Outcomes.{Values, Outcome, done, refused, refusal, verdict_values, outcome, Nothing, nothing, kept, checked, fits, front, placed, no_room}
+use Rattle.meaning.specs.Outcomes.{Values, done, refused, refusal, verdict_values, outcome, nothing, kept, checked, fits, front, placed, no_room}
 
 -- ---- the values tell verdicts apart
 

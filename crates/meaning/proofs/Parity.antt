@@ -1,9 +1,9 @@
 -- Parity: exclusive or of truth values, and the exclusive or of a test over a list, which is whether an odd number passes.
 -- Assumes nothing.
 use mathlib.Core.Path.{◌≡◌, refl, sym, ◌∙◌, ap, ap₂}
-use mathlib.Core.Bool.{Bool, true, false, not, ◌&&◌, ◌||◌, cond, not-not, false≢true}
+use mathlib.Core.Bool.{Bool, true, false, not, ◌&&◌, cond, not-not, false≢true}
 use mathlib.Core.List.{List, [], ◌∷◌, ◌++◌, map}
-use Prim.Native.Nat.{ℕ, zero, suc}
+use Prim.Native.Nat.{suc}
 use Rattle.meaning.specs.Counting.{count, keep, All, odd}
 pub use Rattle.meaning.specs.Counting.{◌⊕◌, sum}
 use Rattle.meaning.specs.OneList.{each}

@@ -2,8 +2,8 @@
 --   Pairing    a type whose values are pairs, whatever they are called
 --   product    the space of the pairs; `diff` goes along the first space over the parities along the second
 -- Assumes nothing.
-use mathlib.Core.Path.{◌≡◌, refl, sym, ◌∙◌, ap, ap₂, subst, fun_ext}
-use mathlib.Core.Bool.{Bool, true, false, not, ◌&&◌, ◌||◌, true≢false, false≢true, and_assoc, and_comm, or-true}
+use mathlib.Core.Path.{◌≡◌, refl, sym, ◌∙◌, ap, ap₂, subst}
+use mathlib.Core.Bool.{Bool, true, false, ◌&&◌, ◌||◌, true≢false, false≢true, and_comm}
 use mathlib.Core.List.{List, [], ◌∷◌, ◌++◌, map}
 use Rattle.meaning.specs.Counting.{All}
 use Rattle.meaning.specs.OneList.{each}

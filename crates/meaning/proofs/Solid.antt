@@ -7,14 +7,14 @@
 -- Assumes nothing.
 use mathlib.Core.Path.{◌≡◌, refl, sym, ◌∙◌, ap, ap₂}
 use mathlib.Core.Bool.{Bool, true, false, not, ◌&&◌, ◌||◌, cond, and-true}
-use mathlib.Core.List.{List, [], ◌∷◌, map}
-use lib.IntN.{ℤ, pos}
+use mathlib.Core.List.{List, [], ◌∷◌}
+use lib.IntN.{ℤ}
 use lib.Signed.{le_z, lt_z}
-use Rattle.meaning.specs.Numbers.{Axis, focus, first, second, Cell, Corner, Square, Pair, cell, corner, square, pair, code_on, number_on, square_of, pair_of, across, upright, is_cell, is_corner}
-use Rattle.meaning.specs.Counting.{count, odd, keep, All}
-use Rattle.meaning.specs.Lists.{at_or_below, permitted, surrounding, listed, below, Rising, same, same_pair}
-use Rattle.meaning.specs.OneList.{corner_numbers, one_list, one_pairs, listed_pair, around}
-use Rattle.meaning.proofs.Parity.{◌⊕◌, ⊕-false, ⊕-assoc, sum, odd_count, sum_ext}
+use Rattle.meaning.specs.Numbers.{Axis, focus, first, second, Cell, Corner, Square, Pair, square, pair, code_on, number_on, square_of, pair_of, across, upright}
+use Rattle.meaning.specs.Counting.{keep}
+use Rattle.meaning.specs.Lists.{at_or_below, permitted, surrounding, listed, below, Rising, same}
+use Rattle.meaning.specs.OneList.{one_list, one_pairs, listed_pair, around}
+use Rattle.meaning.proofs.Parity.{⊕-false, ⊕-assoc, sum, odd_count}
 use Rattle.meaning.proofs.Integers.{lt_z_not}
 use Rattle.meaning.proofs.Space.{Space, Up, one_of, all_map}
 use Rattle.meaning.proofs.Line.{line}

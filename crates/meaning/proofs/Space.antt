@@ -10,11 +10,11 @@
 -- Assumes nothing.
 use mathlib.Core.Path.{◌≡◌, refl, sym, ◌∙◌, ap, ap₂, subst, fun_ext}
 use mathlib.Core.Logic.{◌↔◌}
-use mathlib.Core.Bool.{Bool, true, false, not, ◌&&◌, cond, true≢false, false≢true, and-true, and_comm}
-use mathlib.Core.List.{List, [], ◌∷◌, ◌++◌, map, Memᴰ}
+use mathlib.Core.Bool.{Bool, true, false, ◌&&◌, cond, true≢false, false≢true, and_comm}
+use mathlib.Core.List.{List, [], ◌∷◌, ◌++◌, Memᴰ}
 use Rattle.meaning.specs.Counting.{keep, All}
-use Rattle.meaning.proofs.Parity.{◌⊕◌, ⊕-false, ⊕-cancel, sum, sum_all, sum_ext, sum_and, sum_false, sum_⊕, sum_keep, sum_swap, ⊕-and}
-use Rattle.meaning.proofs.Integers.{not_yes, and_left, and_right}
+use Rattle.meaning.proofs.Parity.{◌⊕◌, ⊕-cancel, sum, sum_all, sum_ext, sum_false, sum_keep, sum_swap, ⊕-and}
+use Rattle.meaning.proofs.Integers.{not_yes}
 
 pub record Order (Pt : Type 0) : Type 0 where
   pub eq : Pt → Pt → Bool

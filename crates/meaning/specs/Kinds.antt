@@ -4,7 +4,7 @@
 --   half_edge, half_edges     the six half-edges, one along each direction; each has four cells round it
 --   edges, kind             how many half-edges are of a sort; the kind, 0 to 8
 --   extreme                 kinds 1, 3 and 7
-use Rattle.std.specs.Prelude.{Bool, true, false, not, ◌&&◌, ◌||◌, cond, List, [], ◌∷◌, ℕ, zero, suc, ◌+◌, ◌*◌, ◌/◌, ◌^◌, eqb}
+use Rattle.std.specs.Prelude.{Bool, true, false, not, ◌&&◌, ◌||◌, cond, List, [], ◌∷◌, ℕ, ◌+◌, ◌*◌, ◌/◌, ◌^◌, eqb}
 use Rattle.std.specs.Bool.{beq}
 use Rattle.meaning.specs.Numbers.{Axis, focus, first, second}
 use Rattle.meaning.specs.Counting.{count, odd}

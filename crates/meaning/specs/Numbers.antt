@@ -9,7 +9,7 @@
 --   number, steps                  the shift to and from counting from 0: n steps above the lowest number
 use Rattle.std.specs.Prelude.{Bool, ◌&&◌, ℕ, ◌+◌, ◌-◌, ℤ, pos, negsuc}
 use Rattle.std.proofs.Math.IntN.{sub_ℕ}
-use Rattle.std.specs.Int.Signed.{le_z, lt_z}
+use Rattle.std.specs.Int.Signed.{le_z}
 
 abbrev pub lowest : ℤ
 lowest = negsuc 511

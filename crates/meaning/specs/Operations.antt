@@ -7,7 +7,7 @@
 --   lower_half, upper_half   the cells with code below p on an axis, and those with code p or above
 --   axis_of                 document 01's number of an axis: 0, 1, 2
 --   pair_numbers            a list of pairs as numbers
-use Rattle.std.specs.Prelude.{Bool, true, false, not, ◌&&◌, ◌||◌, cond, List, [], ◌∷◌, ℕ, ℤ, eqb}
+use Rattle.std.specs.Prelude.{Bool, not, ◌&&◌, ◌||◌, cond, List, [], ◌∷◌, ℕ, ℤ, eqb}
 use Rattle.std.proofs.Math.Option.{Option, none, some}
 use Rattle.std.specs.Int.Signed.{le_z, lt_z}
 use Rattle.meaning.specs.Numbers.{Axis, focus, first, second, Cell, Corner, Square, Pair, code_on, across}

@@ -5,8 +5,8 @@
 --   verdict                                what the check says
 --   passes                                 the verdict is that the list is a travel map
 --   refusal_number, refusal_place            the number and the place that document 01's table gives a verdict
-use Rattle.std.specs.Prelude.{Bool, true, false, not, ◌&&◌, ◌||◌, cond, List, ℕ, zero, suc, ◌-◌, ◌%◌, ℤ, pos, ltb, eqb, length, get_or}
-use Rattle.meaning.specs.Numbers.{Axis, focus, first as first_shift, second, Corner, corner, is_corner}
+use Rattle.std.specs.Prelude.{Bool, true, false, not, ◌||◌, cond, List, ℕ, zero, suc, ◌%◌, ℤ, pos, ltb, eqb, length, get_or}
+use Rattle.meaning.specs.Numbers.{focus, first as first_shift, second, Corner, corner, is_corner}
 use Rattle.meaning.specs.Counting.{first}
 use Rattle.meaning.specs.Lists.{vertices, below, odd_line, most_vertices}
 use Rattle.meaning.specs.declared.Verdict.{Verdict}
