@@ -3,12 +3,12 @@
 --   Written           so much of the whole is written to the front, the rest is to come, and nothing behind is touched
 --   Filling           what a function makes of the members read so far is written to the front
 -- Assumes nothing.
-use mathlib.Core.Path.{◌≡◌, refl, sym, ◌∙◌, ap, ap₂, subst}
+use mathlib.Core.Path.{◌≡◌, refl, sym, ◌∙◌, ap, ap₂}
 use mathlib.Core.List.{List, [], ◌∷◌, ◌++◌, append_assoc, append-nil}
 use Prim.Native.Nat.{ℕ, zero, suc, ◌+◌, ◌≤◌, ◌<◌}
 use native.Mathlib.Omega.{arith}
 use native.Mathlib.Numerals.{add-one}
-use lib.ListN.{length, take, drop, set, get_or, drop_of_length-le, length-set, length-append, take-append-drop}
+use lib.ListN.{length, take, drop, set, get_or, drop_of_length-le, length-set, take-append-drop}
 use lib.Seq.{drop-cons, drop-drop, take-suc-set, drop-set-lt, length-take-le}
 use Rattle.meaning.specs.Counting.{All}
 
