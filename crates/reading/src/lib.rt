@@ -118,6 +118,7 @@ fn by_verdict(verdict: Verdict, n: usize) -> Read
 }
 
 // Reads the lines of n vertices and the closing line, behind a count of n, into the list.
+#[tactic(auto, unfolding(meaning::specs::Lists::most_vertices), using(crate::proofs::Order::count_ill_vertex, crate::proofs::Order::count_ill_sum, crate::proofs::Order::sum_wrong, crate::proofs::Runs::all_read))]
 fn read_counted(s: &[u8], n: usize, list: &mut [i16]) -> Read
     requires n_bound { n ≤ 1024 }
     requires n_in_bounds { 3 * n ≤ length list.old }
