@@ -76,6 +76,7 @@ fn digit(b: u8) -> u16
 }
 
 // The number that the four digits at a place make.
+#[tactic(auto, unfolding(crate::specs::Frames::four_at))]
 fn four(s: &[u8], at: usize) -> One
     requires { at + 4 ≤ length s.now }
     ensures { result ≡ four_at s.now at }
@@ -100,6 +101,7 @@ fn four(s: &[u8], at: usize) -> One
 }
 
 // Whether a line of that tag, with so many digits behind it, stands at a place, as far as its tag and its 0A show.
+#[tactic(auto, unfolding(crate::specs::Frames::line_at))]
 fn line_at(s: &[u8], tag: u8, digits: usize, at: usize) -> bool
     requires { digits ≤ 12 }
     ensures { result ≡ line_at s.now tag digits at }
@@ -122,6 +124,7 @@ fn line_at(s: &[u8], tag: u8, digits: usize, at: usize) -> bool
 }
 
 // The number of the frame at a place.
+#[tactic(auto, using(crate::proofs::FrameLaws::line_long))]
 pub fn number_at(s: &[u8], tag: u8, at: usize) -> One
     ensures { result ≡ one_at s.now tag at }
 {
@@ -132,6 +135,7 @@ pub fn number_at(s: &[u8], tag: u8, at: usize) -> One
 }
 
 // The three numbers of the frame at a place.
+#[tactic(auto, using(crate::proofs::FrameLaws::line_long))]
 pub fn numbers_at(s: &[u8], tag: u8, at: usize) -> Three
     ensures { result ≡ three_at s.now tag at }
 {

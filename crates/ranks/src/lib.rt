@@ -46,6 +46,7 @@ pub fn near(wish: u32, low: u32, high: u32) -> u32
 }
 
 // What a code counts in a rank.
+#[tactic(auto, using(crate::proofs::Costs::valued))]
 pub fn value_at(scale: Scale, code: u32) -> u64
     requires sound { Sound scale }
     requires code_lt_axis_codes { code < axis_codes }

@@ -5,17 +5,17 @@
 --   Took, took_none, took_one, took_all    a row that has taken in some keys, one more, all of a line
 -- Assumes nothing.
 use mathlib.Core.Path.{◌≡◌, refl, sym, ◌∙◌, ap, ap₂, subst}
-use mathlib.Core.Bool.{Bool, true, false, not, ◌&&◌, cond}
+use mathlib.Core.Bool.{Bool, true, false}
 use mathlib.Core.List.{List, [], ◌∷◌, ◌++◌}
 use Prim.Native.Nat.{ℕ, suc, ◌+◌, ◌-◌, ◌*◌, ◌/◌, ◌%◌, ◌^◌, ◌≤◌, ◌<◌}
 use native.Mathlib.Omega.{arith}
-use lib.Dec.{leb, ltb, eqb}
+use lib.Dec.{leb, ltb}
 use lib.ListN.{length, take, drop, get_or, set, length-set, length-drop}
 use lib.Seq.{get_or-set_same, get_or-set_other, take-suc, get_or-drop}
 use lib.Bits.{bit_xor}
-use borrow.Author.Tests.{ltb-true, ltb-false, lt-ltb, le-ltb, le-leb, lt-leb}
+use borrow.Author.Tests.{ltb-true, ltb-false, le-leb, lt-leb}
 use Rattle.meaning.specs.Counting.{All}
-use Rattle.meaning.proofs.Parity.{◌⊕◌, ⊕-comm, ⊕-assoc, ⊕-left, sum, sum_append, ⊕-false}
+use Rattle.meaning.proofs.Parity.{◌⊕◌, ⊕-comm, ⊕-assoc, sum, sum_append, ⊕-false}
 use Rattle.meaning.proofs.Integers.{leb_by}
 use Rattle.rising.specs.Merged.{From}
 use Rattle.turn.specs.Turn.{plane_of}

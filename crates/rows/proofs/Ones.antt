@@ -5,25 +5,25 @@
 --   LineTo          so many words of a line are done, the others are as they were
 -- Assumes nothing.
 use mathlib.Core.Path.{◌≡◌, refl, sym, ◌∙◌, ap, ap₂, subst}
-use mathlib.Core.Bool.{Bool, true, false, not, false≢true, not-not}
-use mathlib.Core.List.{List, [], ◌∷◌, ◌++◌, map-append, append_assoc, append-nil}
+use mathlib.Core.Bool.{Bool, true, false, false≢true, not-not}
+use mathlib.Core.List.{List, [], ◌∷◌, ◌++◌, append_assoc, append-nil}
 use Prim.Native.Nat.{ℕ, zero, suc, ◌+◌, ◌-◌, ◌*◌, ◌/◌, ◌%◌, ◌^◌, ◌≤◌, ◌<◌, zero-le, suc-le-suc}
-use native.Mathlib.Nat.{zero-lt-suc, pow-suc, div-one, mod-lt, add-zero}
+use native.Mathlib.Nat.{zero-lt-suc, pow-suc, mod-lt, add-zero}
 use native.Mathlib.Numerals.{add-one}
 use native.Mathlib.Omega.{arith}
 use lib.Dec.{leb, eqb, ltb}
 use lib.Bits.{bit_xor, xor_lt}
 use lib.Count.{count_trailing_zeros, under}
 use lib.ListN.{length, take, set, get_or, length-set, length-map, length-append}
-use lib.Pow.{shr-shr, pow_pos}
+use lib.Pow.{pow_pos}
 use lib.Seq.{take-suc-set, get_or-set_same, get_or-set_other}
 use borrow.Author.Tests.{ltb-true, ltb-false, leb-true, leb-false, le-leb, lt-leb, ne_eqb, eqb-true, eqb-false}
-use Rattle.meaning.specs.Counting.{All, odd}
+use Rattle.meaning.specs.Counting.{All}
 use Rattle.meaning.proofs.Parity.{◌⊕◌, ⊕-false, ⊕-self, ⊕-assoc, ⊕-comm, ⊕-left, ⊕-swap, sum, sum_append, sum_all, sum_ext, sum_false, sum_map}
 use Rattle.meaning.proofs.Space.{all_map, all_append}
 use Rattle.rising.specs.Merged.{From, plus_base}
 use Rattle.turn.proofs.Lists.{from_append, from_plus, plus_append, plus_plus, rising_short}
-use Rattle.rows.specs.Rows.{holds_by, bit, bit_at, up_to, change, Put, PutOnes, PutLine}
+use Rattle.rows.specs.Rows.{bit, bit_at, up_to, change, Put, PutOnes, PutLine}
 use Rattle.rows.proofs.Bits.{odd_none, odd_odd, bit_first, bit_next, bit_zero, bit_xor_lem, bit_one, bit_shifted_first, bit_shifted, bit_last, bit_last_alone}
 
 -- ---- digits, lowest first

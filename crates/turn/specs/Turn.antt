@@ -3,11 +3,9 @@
 --   NextOf           those that lie in the plane from a base on, and no others after
 --   Least, Advanced  the least key that is left of two operands; the next plane of both
 --   Taken            a section that has taken in a plane
-use Rattle.std.specs.Prelude.{◌≡◌, ◌⊎◌, Bool, cond, List, [], ◌∷◌, ◌++◌, ℕ, ◌+◌, ◌-◌, ◌%◌, ◌≤◌, ◌<◌, length, take, drop, get_or}
-use Rattle.std.proofs.Math.Option.{Option, none, some}
+use Rattle.std.specs.Prelude.{◌≡◌, ◌⊎◌, List, ℕ, ◌+◌, ◌-◌, ◌%◌, ◌≤◌, ◌<◌, length, take, drop, get_or}
 use Rattle.meaning.specs.Counting.{All}
-use Rattle.meaning.specs.Operations.{Operation, exclusive, operation, holds}
-use Rattle.rising.specs.Merged.{merged, less_base, plus_base}
+use Rattle.rising.specs.Merged.{merged, less_base}
 
 abbrev pub plane_of : List ℕ → ℕ → ℕ → List ℕ
 plane_of l i e = take (e - i) (drop i l)
