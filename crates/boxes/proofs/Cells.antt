@@ -2,7 +2,7 @@
 --   box_stands    the ends are good, and the eight vertices stand at the front of the result
 --   box_cells_lem     the first 24 numbers are eight vertices, a map of the cells of the box; everything behind them is untouched
 -- Assumes nothing.
-use mathlib.Core.Path.{◌≡◌, refl, sym, ◌∙◌, ap, subst}
+use mathlib.Core.Path.{◌≡◌, refl, ◌∙◌, ap, subst}
 use mathlib.Core.Bool.{Bool, true, false}
 use mathlib.Core.List.{List}
 use Prim.Native.Nat.{ℕ, ◌*◌}
@@ -10,7 +10,6 @@ use native.Mathlib.Omega.{arith}
 use lib.IntN.{ℤ}
 use lib.ListN.{length, take, drop}
 use Rattle.meaning.specs.Lists.{vertices, numbers}
-use Rattle.meaning.specs.OneList.{one_list}
 use Rattle.meaning.specs.Made.{MapOf}
 use Rattle.meaning.specs.Outcomes.{per_vertex}
 use Rattle.meaning.proofs.Made.{length_numbers, Stands, placed_stands, stands_behind, front_map, front_count}

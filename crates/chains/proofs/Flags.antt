@@ -13,7 +13,6 @@ use borrow.Author.Tests.{eqb-true, eqb-false}
 use lib.Dec.{eqb}
 use lib.ListN.{length, get_or, set, replicate}
 use lib.Seq.{get_or-set_same, get_or-set_other}
-use Rattle.meaning.specs.Counting.{count}
 use Rattle.chains.specs.Chains.{ups}
 use Rattle.chains.proofs.Parity.{xor_false}
 

@@ -1,0 +1,21 @@
+-- `chains::first_by_chains` meets its contract: new arrays are empty. Assumes nothing.
+use mathlib.Core.Path.{refl}
+use Rattle.meaning.specs.Lists.{most_vertices}
+use Rattle.chains.proofs.Links.{no_heads}
+use Rattle.chains.proofs.Flags.{ups_new}
+use Rattle.chains.proofs.first_by_chains.Goals as goal
+
+pub link-requires : goal.link-requires
+unfolding most_vertices
+link-requires c = let p = c.requires in record {
+  parted = p.0;
+  keys_len_bound = p.1;
+  heads_len = (refl, p.1);
+  by_index = no_heads 1025;
+}
+
+pub first_linked-requires : goal.first_linked-requires
+first_linked-requires c = record {
+  parted = (c.requires.0, c.link.ensures);
+  flags_len = (refl, ups_new 1025);
+}

@@ -1,0 +1,7 @@
+-- `lines::first_odd` meets its contract: counting, the table or the chains answer. Assumes nothing.
+use mathlib.Core.Path.{refl}
+use Rattle.meaning.proofs.First.{first_none}
+use Rattle.lines.proofs.first_odd.Goals as goal
+
+pub returns-then-shown_even : goal.returns-then-shown_even
+returns-then-shown_even c = first_none _ _ refl (c.shown_even.ensures c.if-shown_even.true)
