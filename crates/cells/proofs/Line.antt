@@ -8,19 +8,19 @@
 use mathlib.Core.Path.{◌≡◌, refl, sym, ◌∙◌, ap, ap₂, subst}
 use mathlib.Core.Logic.{◌⊎◌, inl, inr}
 use mathlib.Core.Bool.{Bool, true, false, not, ◌&&◌, true≢false, false≢true, and-true, beq}
-use mathlib.Core.List.{List, [], ◌∷◌, ◌++◌, map}
+use mathlib.Core.List.{List, [], ◌∷◌, map}
 use Prim.Native.Nat.{ℕ, zero, suc, ◌+◌, ◌-◌, ◌/◌, ◌%◌, ◌≤◌, ◌<◌, min}
 use native.Mathlib.Omega.{arith}
 use native.Mathlib.Numerals.{add-one}
 use lib.Dec.{leb, ltb, eqb}
 use lib.ListN.{length, get_or, take, length-map}
 use lib.Seq.{take-suc, take_all}
-use borrow.Author.Tests.{eqb-true, eq-eqb, ltb-true, ltb-false}
-use Rattle.meaning.proofs.Parity.{◌⊕◌, ⊕-false, ⊕-comm, sum, sum_append, sum_ext}
+use borrow.Author.Tests.{eqb-true, ltb-true, ltb-false}
+use Rattle.meaning.proofs.Parity.{◌⊕◌, ⊕-false, sum, sum_append, sum_ext}
 use Rattle.rising.specs.Merged.{less_base}
 use Rattle.ranks.specs.declared.Scale.{Scale}
-use Rattle.ranks.specs.Values.{axis_codes, value, behind, Sound}
-use Rattle.cells.specs.Cells.{Best, Rank, Part, Here, Turned, point, line_in, line_unit, rest, high}
+use Rattle.ranks.specs.Values.{axis_codes, value, Sound}
+use Rattle.cells.specs.Cells.{Best, Rank, Here, Turned, point, line_in, line_unit, rest, high}
 use Rattle.cells.specs.Line.{numbers_of, Behind}
 use Rattle.cells.proofs.Best.{best_none, best_then, best_same}
 use Rattle.cells.proofs.Axis.{axis_least, turned_past}

@@ -12,7 +12,7 @@
 --   Cut                             a place where no run of one high part goes on
 --   Run                             the numbers from one place to below another have one high part
 --   Edge                            a cut up to which all high parts are at most a code, and behind which none is
-use Rattle.std.specs.Prelude.{◌≡◌, ◌⊎◌, Bool, true, ◌&&◌, cond, List, ℕ, ◌+◌, ◌-◌, ◌/◌, ◌%◌, ◌≤◌, ◌<◌, min, leb, ltb, eqb, length, get_or}
+use Rattle.std.specs.Prelude.{◌≡◌, ◌⊎◌, Bool, true, ◌&&◌, cond, List, ℕ, ◌+◌, ◌/◌, ◌%◌, ◌≤◌, ◌<◌, min, leb, ltb, eqb, length, get_or}
 use Rattle.meaning.specs.Counting.{sum}
 use Rattle.ranks.specs.declared.Scale.{Scale}
 use Rattle.ranks.specs.Values.{axis_codes, value, behind}

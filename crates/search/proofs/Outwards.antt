@@ -6,30 +6,30 @@
 --   section_cells, section_rising, section_few    the cells at the wish's focus, from either side of it
 -- Assumes nothing.
 use mathlib.Core.Path.{◌≡◌, refl, sym, ◌∙◌, ap, ap₂, subst}
-use mathlib.Core.Logic.{◌⊎◌, inl, inr}
-use mathlib.Core.Bool.{Bool, true, false, ◌&&◌}
+use mathlib.Core.Logic.{inl, inr}
+use mathlib.Core.Bool.{Bool, false, ◌&&◌}
 use mathlib.Core.List.{List, [], ◌∷◌, ◌++◌, map}
-use Prim.Native.Nat.{ℕ, zero, suc, ◌+◌, ◌-◌, ◌*◌, ◌/◌, ◌≤◌, ◌<◌}
+use Prim.Native.Nat.{ℕ, suc, ◌+◌, ◌-◌, ◌*◌, ◌≤◌, ◌<◌}
 use native.Mathlib.Omega.{arith}
 use native.Mathlib.Nat.{div-add-mod', div-mul-le_self}
 use lib.Dec.{leb}
 use lib.ListN.{length, get_or, take, drop, take-append-drop}
 use lib.Seq.{take_at}
 use borrow.Author.Tests.{le-leb, lt-leb}
-use Rattle.meaning.proofs.Parity.{◌⊕◌, ⊕-self, ⊕-cancel, sum, sum_append, sum_map}
+use Rattle.meaning.proofs.Parity.{⊕-self, ⊕-cancel, sum, sum_append, sum_map}
 use Rattle.rising.specs.Merged.{From, less_base, norm}
 use Rattle.rising.specs.Placed.{Front}
 use Rattle.rising.proofs.Sums.{from_less, sum_norm, norm_from}
 use Rattle.rising.proofs.Order.{less_none, front_append, front_few}
 use Rattle.rising.proofs.Written.{Filling, filling_ends}
 use Rattle.ranks.specs.declared.Scale.{Scale}
-use Rattle.ranks.specs.Values.{axis_codes, value, behind, Sound}
-use Rattle.cells.specs.Cells.{Best, Depth, Rank, Part, Here, Turned, high, rest, high_at, Cut, Run, Edge, plane_unit}
+use Rattle.ranks.specs.Values.{axis_codes, value, behind}
+use Rattle.cells.specs.Cells.{Best, Depth, Rank, Here, Turned, high, rest, high_at, Cut, Run, Edge, plane_unit}
 use Rattle.cells.specs.Line.{Above}
 use Rattle.cells.proofs.Axis.{part_of, turned_down}
 use Rattle.squares.specs.Rising.{Rising, RunTo}
 use Rattle.squares.proofs.Runs.{run_of, run_at, length_run, from_take, from_drop, sum_upto}
-use Rattle.squares.proofs.Walk.{turned_run, turned_ends, Passed}
+use Rattle.squares.proofs.Walk.{turned_run, turned_ends}
 use Rattle.search.specs.Search.{Even, OneSide}
 
 -- ---- the keys of a plane

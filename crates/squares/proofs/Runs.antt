@@ -19,7 +19,7 @@ use lib.Dec.{ltb, eqb}
 use lib.ListN.{length, get_or, take, drop, length-map, length-take, length-drop}
 use lib.Seq.{take-add, get_or-take, get_or-drop, length-take-le}
 use borrow.Author.Tests.{lt-ltb, le-ltb, ltb-true, ltb-false, eqb-true, eqb-false, eq-eqb, ne_eqb}
-use Rattle.meaning.proofs.Parity.{◌⊕◌, ⊕-false, sum, sum_append, sum_map}
+use Rattle.meaning.proofs.Parity.{◌⊕◌, sum, sum_append, sum_map}
 use Rattle.rising.specs.Merged.{From, less_base}
 use Rattle.rising.proofs.Sums.{from_less}
 use Rattle.cells.specs.Cells.{high, rest, high_at, Cut, Run, Edge}

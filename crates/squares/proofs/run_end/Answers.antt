@@ -1,0 +1,23 @@
+-- `run_end` meets its contract: the run goes on while the numbers lie within a unit of its first high part.
+use native.Mathlib.Omega.{arith}
+use Rattle.cells.proofs.Line.{less_at, less_long}
+use Rattle.squares.proofs.Runs.{run_over, run_goes_on, run_stops}
+use Rattle.squares.proofs.run_end.Goals as goal
+
+pub overflow_sub-list-in-loop-e : goal.overflow_sub-list-in-loop-e
+overflow_sub-list-in-loop-e c =
+    run_over c.args.unit c.requires.unit_nonzero c.requires.rising.rising c.loop-e.invariant _ _ (less_at c.args.base c.args.list.now c.args.i c.requires.i_in_bounds) (less_at c.args.base c.args.list.now c.loop-e.e c.loop-e-test.true)
+    (omega (arith, less_long c.args.base c.args.list.now, c.loop-e-test.true))
+
+pub returns-then-unit-list : goal.returns-then-unit-list
+returns-then-unit-list c =
+    let h = c.loop-e-test.true in
+    record {
+      run = c.loop-e.invariant;
+      cut = run_stops c.args.unit c.requires.unit_nonzero c.requires.rising.rising c.loop-e.invariant _ _ (less_at c.args.base c.args.list.now c.args.i c.requires.i_in_bounds) (less_at c.args.base c.args.list.now c.loop-e.e h) (omega (arith, less_long c.args.base c.args.list.now, h)) c.if-unit-list.true;
+    }
+
+pub loop-e-preserved : goal.loop-e-preserved
+loop-e-preserved c =
+    let h = c.loop-e-test.true in
+    run_goes_on c.args.unit c.requires.unit_nonzero c.requires.rising.rising c.loop-e.invariant _ _ (less_at c.args.base c.args.list.now c.args.i c.requires.i_in_bounds) (less_at c.args.base c.args.list.now c.loop-e.e h) (omega (arith, less_long c.args.base c.args.list.now, h)) c.if-unit-list.false
