@@ -8,14 +8,13 @@ use Prim.Native.Nat.{ℕ, zero, suc, ◌/◌, ◌%◌, ◌<◌}
 use native.Mathlib.Omega.{arith}
 use lib.IntN.{ℤ}
 use lib.ListN.{length}
-use Rattle.meaning.specs.Numbers.{Cell, number}
+use Rattle.meaning.specs.Numbers.{Cell}
 use Rattle.meaning.specs.Lists.{vertices}
 use Rattle.meaning.specs.Lists as Lists
 use Rattle.meaning.specs.Verdicts.{verdict, passes}
 use Rattle.meaning.specs.declared.Verdict.TheVariants.{Valid}
 use Rattle.meaning.proofs.Checked.{verdict_valid}
 use Rattle.lists.proofs.Vertices.{length_vertices}
-use Rattle.nearest.specs.declared.Found.TheVariants.{At}
 use Rattle.nearest.specs.Answer.{Answered}
 use Rattle.nearest.specs.Ranks.{Ranked, found_at}
 use Rattle.nearest.proofs.Promise.{answered_cell}

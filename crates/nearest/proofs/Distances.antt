@@ -5,7 +5,7 @@
 -- Assumes nothing.
 use mathlib.Core.Path.{◌≡◌, refl, ◌∙◌, ap, ap₂}
 use mathlib.Core.Bool.{Bool, true, false}
-use Prim.Native.Nat.{ℕ, zero, suc, ◌+◌, ◌-◌, ◌*◌}
+use Prim.Native.Nat.{ℕ, zero, suc, ◌+◌, ◌*◌}
 use native.Mathlib.Omega.{arith}
 use lib.Dec.{ltb}
 use lib.IntN.{ℤ, pos, negsuc, sub_ℕ, nat_abs}

@@ -18,7 +18,7 @@ use mir.ValLaws.{to_z-of_z}
 use Rattle.meaning.specs.Numbers.{Cell, Corner, cell}
 use Rattle.meaning.specs.Lists.{vertices, permitted, Rising}
 use Rattle.meaning.specs.Verdicts.{verdict, passes}
-use Rattle.meaning.specs.Outcomes.{Values, Outcome, outcome, Nothing, nothing, done, empty_map, refused, kept, checked}
+use Rattle.meaning.specs.Outcomes.{Outcome, outcome, Nothing, nothing, done, refused, kept}
 use Rattle.meaning.specs.Nearest.{distance, Nearest, Reached, reached, nowhere, nearest_of, IsNearest, nearest_outcome}
 use Rattle.meaning.specs.declared.Verdict.{Verdict}
 use Rattle.meaning.proofs.Checked.{passes_valid}
