@@ -79,6 +79,7 @@ fn empty_line() -> [u8; ANSWER_LINE]
 }
 
 // Writes a line at a place of the output.
+#[tactic(auto, using(crate::proofs::Lines::copied_more))]
 fn put(line: &[u8], at: usize, out: &mut [u8])
     requires { at + length line.now ≤ length out.old }
     ensures { out.new ≡
@@ -102,6 +103,7 @@ pub fn refuse(number: usize, place: usize, out: &mut [u8]) -> usize
 }
 
 // The 05 line of wish i.
+#[tactic(auto, using(codes::proofs::Laws::read_back, crate::proofs::Lines::answer_at))]
 fn answer(list: &[i16], wishes: &[i16], i: usize) -> [u8; ANSWER_LINE]
     requires list_value { verdict list.now ≡ Verdict.Valid }
     requires i_in_bounds { 3 * i + 2 < length wishes.now }
