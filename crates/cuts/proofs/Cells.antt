@@ -20,7 +20,7 @@ use Rattle.meaning.specs.Verdicts.{verdict, passes}
 use Rattle.meaning.specs.OneList.{one_pairs, WithinCodes}
 use Rattle.meaning.specs.Made.{MapOf, pairs, PairsOf}
 use Rattle.meaning.specs.Operations.{axis_of, section_at, lower_half, upper_half, pair_numbers}
-use Rattle.meaning.specs.Outcomes.{outcome, nothing, done, done_both, per_vertex, per_pair, fits, placed}
+use Rattle.meaning.specs.Outcomes.{outcome, nothing, done_both, per_vertex, per_pair, fits, placed}
 use Rattle.meaning.proofs.Made.{length_numbers, length_pairs, Stands, placed_stands, stands_behind, read_front, pairs_back, front_map, front_count, one_squares}
 use Rattle.meaning.proofs.Checked.{passes_valid}
 use Rattle.meaning.proofs.Maps.{valid_within}

@@ -139,6 +139,7 @@ fn read_counted(s: &[u8], n: usize, list: &mut [i16]) -> Read
 }
 
 // Reads the text of a map, up to its closing line, into the list.
+#[tactic(auto, unfolding(crate::specs::Reading::map_text, meaning::specs::Lists::most_vertices))]
 pub fn read_map(s: &[u8], list: &mut [i16]) -> Read
     requires { 3072 ≤ length list.old }
     ensures list_after { meant result list.new ≡ map_text s.now }
