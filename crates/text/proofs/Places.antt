@@ -11,13 +11,13 @@ use native.Mathlib.Omega.{arith}
 use borrow.Author.Tests.{le-ltb}
 use lib.Dec.{ltb}
 use lib.IntN.{ℤ}
-use lib.ListN.{length, take}
+use lib.ListN.{length}
 use Rattle.meaning.specs.Lists.{vertices}
 use Rattle.reading.specs.Reading.{ill_formed, too_long, Text, refused, whole, map_text, wish_text}
 use Rattle.reading.proofs.Places.{MapTen, map_ten, ten_map, WishTen, wish_ten, ten_wish, map_read, read_begins}
 use Rattle.answers.specs.Answers.{refusal_line}
 use Rattle.meaning.specs.Outcomes.{front}
-use Rattle.text.specs.Program.{Response, refusal, answers, with_wishes, with_map, most_bytes, response, Writes, Put, Responds}
+use Rattle.text.specs.Program.{refusal, answers, with_wishes, with_map, most_bytes, response, Put, Responds}
 
 pub data InputTen (s : List ℕ) (p : ℕ) : Type 0 where
   in_map : MapTen s p → InputTen s p

@@ -22,6 +22,7 @@ pub const MOST_WRITTEN: usize = ANSWER_LINE * MOST_WISHES;
 const TOO_LONG: usize = 12;
 
 // Writes the answers to the wishes behind a map of n vertices, or the refusal of their text; answers how many bytes are written.
+#[tactic(auto, using(crate::proofs::Outcomes::wishes_refused))]
 fn answer_wishes(input: &[u8], n: usize, list: &[i16], out: &mut [u8]) -> usize
     requires n_bound { n ≤ 1024 }
     requires list_value { verdict list.now ≡ Verdict.Valid }
@@ -40,6 +41,7 @@ fn answer_wishes(input: &[u8], n: usize, list: &[i16], out: &mut [u8]) -> usize
 }
 
 // Writes what the program answers to an input to the front of out; answers how many bytes that is.
+#[tactic(auto, using(crate::proofs::Outcomes::bytes_refused, crate::proofs::Outcomes::map_refused, crate::proofs::Outcomes::map_answered))]
 pub fn respond(input: &[u8], out: &mut [u8; MOST_WRITTEN]) -> usize
     ensures { Responds input.now out.old result out.new }
 {

@@ -1,0 +1,13 @@
+-- `answer_wishes` meets its contract: the refusal of the wishes' text, or the answers to them.
+use Prim.Native.Nat.{◌*◌}
+use native.Mathlib.Omega.{arith}
+use lib.Seq.{length-take-le}
+use Rattle.text.proofs.Outcomes.{wishes_answered}
+use Rattle.text.proofs.answer_wishes.Goals as goal
+
+-- the answers have room
+pub returns-in-Whole : goal.returns-in-Whole
+returns-in-Whole c =
+    let few = c.in-Whole.ensures.at_most in
+    let long = length-take-le (3 * c.in-Whole.count) c.read_wishes.new.list (omega arith) in
+    wishes_answered _ c.in-Whole.ensures.list_after c.answer_all.ensures.value (omega arith) c.answer_all.ensures.written
