@@ -23,76 +23,97 @@ const DISTANCES: u64 = 1 << 32;
 const BYTES: u64 = 1 << 8;
 
 // The check of a list: the number and the place.
-pub fn check_line(example: &[u8], list: &[i16]) {
+pub fn check_line(rt: &impl Print, example: &[u8], list: &[i16]) {
     let answer = travelmap::travelmap_check(list);
-    say(example);
-    say(b" check");
-    say_number(answer / NUMBER);
-    say_number(answer / PLACE % PLACES);
-    say(b"\n");
+    say(rt, example);
+    say(rt, b" check");
+    say_number(rt, answer / NUMBER);
+    say_number(rt, answer / PLACE % PLACES);
+    say(rt, b"\n");
 }
 
 // Whether a cell is permitted.
-pub fn cell_line(example: &[u8], list: &[i16], focus: i16, first: i16, second: i16) {
+pub fn cell_line(
+    rt: &impl Print,
+    example: &[u8],
+    list: &[i16],
+    focus: i16,
+    first: i16,
+    second: i16,
+) {
     let answer = travelmap::travelmap_cell(list, focus, first, second);
-    say(example);
-    say(b" cell");
-    say_three(focus, first, second);
+    say(rt, example);
+    say(rt, b" cell");
+    say_three(rt, focus, first, second);
     if answer == 0 {
-        say(b" no\n");
+        say(rt, b" no\n");
     } else if answer == 1 {
-        say(b" yes\n");
+        say(rt, b" yes\n");
     } else {
-        say(b" refused\n");
+        say(rt, b" refused\n");
     }
 }
 
 // The corner report: the number, the mask, how many cells, the kind.
-pub fn corner_line(example: &[u8], list: &[i16], focus: i16, first: i16, second: i16) {
+pub fn corner_line(
+    rt: &impl Print,
+    example: &[u8],
+    list: &[i16],
+    focus: i16,
+    first: i16,
+    second: i16,
+) {
     let answer = travelmap::travelmap_corner(list, focus, first, second);
-    say(example);
-    say(b" corner");
-    say_three(focus, first, second);
-    say(b":");
-    say_number(answer / NUMBER);
-    say_number(answer % BYTES);
-    say_number(answer / HOW_MANY % BYTES);
-    say_number(answer / KIND % BYTES);
-    say(b"\n");
+    say(rt, example);
+    say(rt, b" corner");
+    say_three(rt, focus, first, second);
+    say(rt, b":");
+    say_number(rt, answer / NUMBER);
+    say_number(rt, answer % BYTES);
+    say_number(rt, answer / HOW_MANY % BYTES);
+    say_number(rt, answer / KIND % BYTES);
+    say(rt, b"\n");
 }
 
 // The plane query: where the part starts, and its length; and the part itself.
-pub fn plane_line(example: &[u8], list: &[i16], focus: i16) {
+pub fn plane_line(rt: &impl Print, example: &[u8], list: &[i16], focus: i16) {
     let answer = travelmap::travelmap_plane(list, focus);
-    say(example);
-    say(b" plane");
-    say_signed(focus);
-    say(b":");
-    say_number(answer / PLACE);
-    say_number(answer % PLACE);
-    say(b":");
-    say_list(asks::plane(list, focus));
-    say(b"\n");
+    say(rt, example);
+    say(rt, b" plane");
+    say_signed(rt, focus);
+    say(rt, b":");
+    say_number(rt, answer / PLACE);
+    say_number(rt, answer % PLACE);
+    say(rt, b":");
+    say_list(rt, asks::plane(list, focus));
+    say(rt, b"\n");
 }
 
 // The cell nearest to a wish: the number and the cell; and on a line of its own the number and the distance.
-pub fn nearest_lines(example: &[u8], list: &[i16], focus: i16, first: i16, second: i16) {
+pub fn nearest_lines(
+    rt: &impl Print,
+    example: &[u8],
+    list: &[i16],
+    focus: i16,
+    first: i16,
+    second: i16,
+) {
     let answer = travelmap::travelmap_nearest(list, focus, first, second);
-    say(example);
-    say(b" nearest");
-    say_three(focus, first, second);
-    say(b":");
-    say_number(answer / NUMBER);
-    say_bits(answer / FOCUS);
-    say_bits(answer / FIRST);
-    say_bits(answer);
-    say(b"\n");
+    say(rt, example);
+    say(rt, b" nearest");
+    say_three(rt, focus, first, second);
+    say(rt, b":");
+    say_number(rt, answer / NUMBER);
+    say_bits(rt, answer / FOCUS);
+    say_bits(rt, answer / FIRST);
+    say_bits(rt, answer);
+    say(rt, b"\n");
     let far = travelmap::travelmap_nearest_distance(list, focus, first, second);
-    say(example);
-    say(b" distance");
-    say_three(focus, first, second);
-    say(b":");
-    say_number(far / NUMBER);
-    say_number(far % DISTANCES);
-    say(b"\n");
+    say(rt, example);
+    say(rt, b" distance");
+    say_three(rt, focus, first, second);
+    say(rt, b":");
+    say_number(rt, far / NUMBER);
+    say_number(rt, far % DISTANCES);
+    say(rt, b"\n");
 }

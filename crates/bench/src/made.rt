@@ -22,52 +22,67 @@ pub const OVERLAP: u32 = 2;
 pub const EXCLUSIVE: u32 = 4;
 
 // The box with these ends: the number, the count, and the result.
-pub fn box_line(example: &[u8], ends: [[i16; 2]; 3], out: &mut [i16]) {
+pub fn box_line(rt: &impl Print, example: &[u8], ends: [[i16; 2]; 3], out: &mut [i16]) {
     let answer = travelmap::travelmap_box(
         ends[0][0], ends[0][1], ends[1][0], ends[1][1], ends[2][0], ends[2][1], out,
     );
-    say(example);
-    say(b" box");
-    say_number(answer / NUMBER);
-    say_number(answer % COUNTS);
-    say(b":");
-    say_list(out);
-    say(b"\n");
+    say(rt, example);
+    say(rt, b" box");
+    say_number(rt, answer / NUMBER);
+    say_number(rt, answer % COUNTS);
+    say(rt, b":");
+    say_list(rt, out);
+    say(rt, b"\n");
 }
 
 // The join of two maps by an operation: the number, the count, and the list.
-pub fn join_line(example: &[u8], operation: u32, a: &[i16], b: &[i16], out: &mut [i16]) {
+pub fn join_line(
+    rt: &impl Print,
+    example: &[u8],
+    operation: u32,
+    a: &[i16],
+    b: &[i16],
+    out: &mut [i16],
+) {
     let answer = travelmap::travelmap_join(operation, a, b, out);
-    say(example);
+    say(rt, example);
     if operation == UNION {
-        say(b" union");
+        say(rt, b" union");
     } else if operation == OVERLAP {
-        say(b" overlap");
+        say(rt, b" overlap");
     } else {
-        say(b" exclusive");
+        say(rt, b" exclusive");
     }
-    say_number(answer / NUMBER);
+    say_number(rt, answer / NUMBER);
     let count = answer % COUNTS;
-    say_made(count, VERTEX * count, out);
-    say(b"\n");
+    say_made(rt, count, VERTEX * count, out);
+    say(rt, b"\n");
 }
 
 // The section at a code of an axis: the number, the count, and the pairs.
-pub fn section_line(example: &[u8], list: &[i16], axis: u32, code: i16, out: &mut [i16]) {
+pub fn section_line(
+    rt: &impl Print,
+    example: &[u8],
+    list: &[i16],
+    axis: u32,
+    code: i16,
+    out: &mut [i16],
+) {
     let answer = travelmap::travelmap_section(list, axis, code, out);
-    say(example);
-    say(b" section");
-    say_number(axis as u64);
-    say_signed(code);
-    say(b":");
-    say_number(answer / NUMBER);
+    say(rt, example);
+    say(rt, b" section");
+    say_number(rt, axis as u64);
+    say_signed(rt, code);
+    say(rt, b":");
+    say_number(rt, answer / NUMBER);
     let count = answer % COUNTS;
-    say_made(count, PAIR * count, out);
-    say(b"\n");
+    say_made(rt, count, PAIR * count, out);
+    say(rt, b"\n");
 }
 
 // The split at a number of an axis: the number, and for each half the count and the list.
 pub fn split_line(
+    rt: &impl Print,
     example: &[u8],
     list: &[i16],
     axis: u32,
@@ -76,17 +91,17 @@ pub fn split_line(
     high: &mut [i16],
 ) {
     let answer = travelmap::travelmap_split(list, axis, at, low, high);
-    say(example);
-    say(b" split");
-    say_number(axis as u64);
-    say_signed(at);
-    say(b":");
-    say_number(answer / NUMBER);
+    say(rt, example);
+    say(rt, b" split");
+    say_number(rt, axis as u64);
+    say_signed(rt, at);
+    say(rt, b":");
+    say_number(rt, answer / NUMBER);
     let below = answer % COUNTS;
-    say(b" low");
-    say_made(below, VERTEX * below, low);
+    say(rt, b" low");
+    say_made(rt, below, VERTEX * below, low);
     let others = answer / SECOND % COUNTS;
-    say(b" high");
-    say_made(others, VERTEX * others, high);
-    say(b"\n");
+    say(rt, b" high");
+    say_made(rt, others, VERTEX * others, high);
+    say(rt, b"\n");
 }

@@ -1,5 +1,4 @@
-// Writing to standard output: a text, numbers with a space before each, and lists.
-use libc::STDOUT_FILENO;
+// Writing to standard output: a text, numbers with a space before each, and lists. What the output does not take is let go.
 
 // What `codes` counts 0 as.
 const ZERO: u64 = 32768;
@@ -10,64 +9,64 @@ const BELOW_ZERO: u64 = 32768;
 const NUMBERS: u64 = 65536;
 
 // Writes a text.
-pub fn say(text: &[u8]) {
-    io::write_all(STDOUT_FILENO, text);
+pub fn say(rt: &impl Print, text: &[u8]) {
+    let _ = rt.write_all(text);
 }
 
 // Writes a number, with a space before it.
-pub fn say_number(n: u64) {
-    say(b" ");
-    io::print_decimal(STDOUT_FILENO, n);
+pub fn say_number(rt: &impl Print, n: u64) {
+    say(rt, b" ");
+    let _ = rt.print(n);
 }
 
 // Writes a number below 0 by how far it lies below, with a space before it.
-fn say_below(n: u64) {
-    say(b" -");
-    io::print_decimal(STDOUT_FILENO, n);
+fn say_below(rt: &impl Print, n: u64) {
+    say(rt, b" -");
+    let _ = rt.print(n);
 }
 
 // Writes a signed number.
-pub fn say_signed(n: i16) {
+pub fn say_signed(rt: &impl Print, n: i16) {
     let up = codes::lift(n) as u64;
     if up < ZERO {
-        say_below(ZERO - up);
+        say_below(rt, ZERO - up);
     } else {
-        say_number(up - ZERO);
+        say_number(rt, up - ZERO);
     }
 }
 
 // Writes the signed number that the lowest 16 bits stand for in two's complement.
-pub fn say_bits(bits: u64) {
+pub fn say_bits(rt: &impl Print, bits: u64) {
     let n = bits % NUMBERS;
     if n < BELOW_ZERO {
-        say_number(n);
+        say_number(rt, n);
     } else {
-        say_below(NUMBERS - n);
+        say_below(rt, NUMBERS - n);
     }
 }
 
 // Writes three signed numbers.
-pub fn say_three(focus: i16, first: i16, second: i16) {
-    say_signed(focus);
-    say_signed(first);
-    say_signed(second);
+pub fn say_three(rt: &impl Print, focus: i16, first: i16, second: i16) {
+    say_signed(rt, focus);
+    say_signed(rt, first);
+    say_signed(rt, second);
 }
 
 // Writes a list.
-pub fn say_list(list: &[i16]) {
+pub fn say_list(rt: &impl Print, list: &[i16]) {
     let mut i = 0;
     while i < list.len() {
-        say_signed(list[i]);
+        say_signed(rt, list[i]);
         i += 1;
     }
 }
 
 // Writes a count, and the list that is made: that many numbers from the front of a result.
-pub fn say_made(count: u64, n: u64, res: &[i16]) {
-    say_number(count);
-    say(b":");
+pub fn say_made(rt: &impl Print, count: u64, n: u64, res: &[i16]) {
+    say_number(rt, count);
+    say(rt, b":");
     let end = n as usize;
     if end <= res.len() {
-        say_list(&res[..end]);
+        say_list(rt, &res[..end]);
     }
 }

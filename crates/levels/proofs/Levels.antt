@@ -7,25 +7,25 @@
 -- Assumes nothing.
 use mathlib.Core.Path.{◌≡◌, refl, sym, ◌∙◌, ap, ap₂, subst}
 use mathlib.Core.Bool.{Bool, true, false, ◌&&◌, cond, and_assoc}
-use mathlib.Core.List.{List, [], ◌∷◌, ◌++◌, map}
-use Prim.Native.Nat.{ℕ, zero, suc, ◌+◌, ◌-◌, ◌*◌, ◌/◌, ◌%◌, ◌≤◌, ◌<◌, min}
+use mathlib.Core.List.{List, [], ◌∷◌, ◌++◌}
+use Prim.Native.Nat.{ℕ, suc, ◌+◌, ◌-◌, ◌*◌, ◌/◌, ◌%◌, ◌≤◌, ◌<◌, min}
 use native.Mathlib.Nat.{add-zero, zero-mod, div-add-mod', mul-le-mul_right}
 use native.Mathlib.Omega.{arith}
-use lib.Dec.{leb, ltb, eqb}
+use lib.Dec.{leb, ltb}
 use lib.ListN.{length, take, drop, length-append, length-map, length-take, take-append-drop}
 use lib.Seq.{take-add, take_all}
 use borrow.Author.Tests.{ltb-true, ltb-false, le-leb, lt-leb}
 use Rattle.meaning.specs.Counting.{All, keep}
-use Rattle.meaning.proofs.Parity.{◌⊕◌, odd_count, ⊕-false, ⊕-self, ⊕-assoc, sum, sum_append, sum_all, sum_ext, sum_map, sum_keep, sum_false}
+use Rattle.meaning.proofs.Parity.{◌⊕◌, odd_count, ⊕-false, sum, sum_append, sum_all, sum_ext, sum_map, sum_keep}
 use Rattle.meaning.proofs.Integers.{leb_by}
 use Rattle.meaning.proofs.Space.{all_map, all_append}
 use Rattle.rising.specs.Merged.{From, merged, less_base, plus_base}
-use Rattle.rising.proofs.Sums.{sum_merged, from_less, from_merged, all_merged, length_merged, no_longer}
+use Rattle.rising.proofs.Sums.{sum_merged, from_merged, all_merged, length_merged, no_longer}
 use Rattle.turn.specs.Turn.{plane_of, NextOf, Advanced}
 use Rattle.turn.proofs.Lists.{all_take, all_drop, from_drop, from_take, from_append, from_plus, from_minus, all_image, all_both, sum_none, undo, any}
 use Rattle.turn.proofs.Pieces.{least_left, least_one}
-use Rattle.levels.specs.Level.{over, OkOver, Operand, Means, Joined}
-use Rattle.levels.proofs.Stride.{Stride, Level}
+use Rattle.levels.specs.Level.{over, OkOver, Operand, Joined}
+use Rattle.levels.proofs.Stride.{Level}
 
 keep_length : (p : ℕ → Bool) (l : List ℕ) → length (keep p l) ≤ length l
 keep_length p [] = omega arith

@@ -12,25 +12,24 @@
 -- Assumes nothing.
 use mathlib.Core.Path.{◌≡◌, refl, sym, ◌∙◌, ap, ap₂, subst}
 use mathlib.Core.Bool.{Bool, true, false, ◌&&◌, true≢false}
-use mathlib.Core.List.{List, [], ◌∷◌, ◌++◌, map, append_assoc, append-nil}
+use mathlib.Core.List.{List, [], ◌∷◌, ◌++◌}
 use Prim.Native.Nat.{ℕ, zero, suc, ◌+◌, ◌-◌, ◌*◌, ◌/◌, ◌%◌, ◌≤◌, ◌<◌, min}
 use native.Mathlib.Nat.{sub-zero}
-use native.Mathlib.Numerals.{add-one}
 use native.Mathlib.Omega.{arith}
 use lib.Dec.{leb, ltb}
 use lib.ListN.{length, take, drop, get_or, length-append, length-map, take-append-drop}
-use lib.Seq.{take-add, take_all, take-suc, drop-cons}
+use lib.Seq.{take-add, take_all, drop-cons}
 use borrow.Author.Tests.{ltb-true, ltb-false, leb-true, leb-false, le-leb, lt-leb}
 use Rattle.meaning.specs.Counting.{All}
-use Rattle.meaning.proofs.Parity.{◌⊕◌, ⊕-false, ⊕-self, ⊕-comm, ⊕-cancel, sum, sum_append, sum_all, sum_ext, sum_map, sum_false}
+use Rattle.meaning.proofs.Parity.{◌⊕◌, ⊕-false, ⊕-comm, ⊕-cancel, sum, sum_append, sum_all, sum_ext, sum_map}
 use Rattle.meaning.proofs.Integers.{leb_by}
 use Rattle.meaning.proofs.Space.{all_map, all_append}
 use Rattle.rising.specs.Merged.{From, less_base, plus_base}
 use Rattle.rising.proofs.Sums.{from_less, from_above}
 use Rattle.turn.specs.Turn.{plane_of}
-use Rattle.turn.proofs.Lists.{all_take, all_drop, all_more, all_image, all_both, from_drop, from_append, from_plus, all_begins, any, sum_none, less_zero, plus_append, plus_plus, rising_short}
+use Rattle.turn.proofs.Lists.{all_take, all_drop, all_image, all_both, from_drop, from_append, from_plus, all_begins, any, sum_none, less_zero, plus_append, plus_plus, rising_short}
 use Rattle.levels.specs.Level.{Number, line_fits, LineOk}
-use Rattle.rows.specs.Rows.{holds_by, bit, bit_at, TookLine, Put, PutLine, change}
+use Rattle.rows.specs.Rows.{bit, bit_at, TookLine, Put, PutLine, change}
 use Rattle.levels.specs.Planes.{Spanned, Planes, Rows, Changed}
 use Rattle.rows.proofs.Operations.{change_none, change_quiet}
 use Rattle.rows.proofs.Bits.{bit_zero}

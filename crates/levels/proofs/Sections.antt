@@ -26,10 +26,10 @@ use Rattle.turn.specs.Turn.{plane_of, NextOf, Advanced, Taken}
 use Rattle.turn.proofs.Lists.{all_take, all_drop, all_begins, from_drop, from_take, undo}
 use Rattle.turn.proofs.Pieces.{least_one}
 use Rattle.rows.proofs.Operations.{holds_out}
-use Rattle.levels.specs.Level.{Number, Operand, Joined, over, line_fits, LineOk, plane_fits, PlaneOk}
+use Rattle.levels.specs.Level.{Number, Operand, Joined, line_fits, LineOk, plane_fits, PlaneOk}
 use Rattle.levels.proofs.Stride.{planes}
 use Rattle.levels.proofs.Levels.{At, at_start, at_turn, Section, Whole, ReadOf, next_a, next_b, on_a, on_b, refuse_room, joined_done, joined_short}
-use Rattle.rows.specs.Rows.{holds_by, change}
+use Rattle.rows.specs.Rows.{holds_by}
 use Rattle.levels.specs.Planes.{Spanned, Planes, Rows, Changed}
 
 -- ---- the span of the numbers

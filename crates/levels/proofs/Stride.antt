@@ -3,15 +3,15 @@
 --   Apart, apart_over        lists with the same sums have the same members, from one level to the next
 --   Level         what the laws of a level ask; numbers, lines and planes are levels
 -- Assumes nothing.
-use mathlib.Core.Path.{◌≡◌, refl, sym, ◌∙◌, ap, ap₂, subst}
-use mathlib.Core.Bool.{Bool, true, false, not, ◌&&◌, and_assoc, and_comm, true≢false}
-use mathlib.Core.List.{List, [], ◌∷◌, ◌++◌, map}
+use mathlib.Core.Path.{◌≡◌, refl, sym, ◌∙◌, ap, ap₂}
+use mathlib.Core.Bool.{Bool, true, false, not, ◌&&◌}
+use mathlib.Core.List.{List, [], ◌∷◌, map}
 use Prim.Native.Nat.{ℕ, zero, suc, ◌+◌, ◌-◌, ◌*◌, ◌/◌, ◌%◌, ◌≤◌, ◌<◌}
 use native.Mathlib.Nat.{add-zero, div-add-mod', div-lt_iff_lt-mul, le-div_iff_mul-le, mod-lt, add-mod_right, le_of_suc-le-suc}
 use native.Mathlib.Omega.{arith}
 use lib.Arith.{digits_div, digits_mod}
-use lib.Dec.{leb, ltb, eqb}
-use borrow.Author.Tests.{leb-true, leb-false, ltb-true, eqb-true, eqb-false, le-leb, lt-leb, lt-ltb, eq-eqb, ne_eqb}
+use lib.Dec.{leb, eqb}
+use borrow.Author.Tests.{leb-true, leb-false, eqb-true, eqb-false, le-leb, eq-eqb, ne_eqb}
 use Rattle.meaning.specs.Counting.{All, keep}
 use Rattle.meaning.proofs.Parity.{◌⊕◌, sum, sum_ext, sum_map, sum_keep, sum_⊕, ⊕-and}
 use Rattle.levels.specs.Level.{over, OkOver, point_fits, number_fits, line_fits, PointOk, NumberOk, LineOk}

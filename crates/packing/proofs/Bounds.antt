@@ -7,19 +7,19 @@ use mathlib.Core.Path.{◌≡◌, refl}
 use mathlib.Core.Bool.{Bool, true, false, ◌&&◌, cond}
 use mathlib.Core.List.{List, [], ◌∷◌}
 use mathlib.Core.Option.{Option, none, some}
-use Prim.Native.Nat.{ℕ, ◌+◌, ◌*◌, ◌%◌, ◌^◌, ◌≤◌, ◌<◌}
+use Prim.Native.Nat.{ℕ, ◌*◌, ◌%◌, ◌^◌, ◌≤◌, ◌<◌}
 use native.Mathlib.Omega.{arith}
 use borrow.Author.Tests.{ltb-true, ltb-false, leb-true}
 use lib.Dec.{ltb, leb, eqb}
 use lib.IntN.{ℤ}
 use lib.ListN.{length}
-use Rattle.meaning.specs.Numbers.{Axis, Cell, Corner, is_code, is_number}
+use Rattle.meaning.specs.Numbers.{Cell, Corner, is_code, is_number}
 use Rattle.meaning.specs.Counting.{count, first}
 use Rattle.meaning.specs.Lists.{vertices, numbers, permitted, cell_by, surrounding, weigh, mask, how_many, most_vertices}
 use Rattle.meaning.specs.Kinds.{kind, kind_by, half_edges, is_manifold, is_non_manifold}
 use Rattle.meaning.specs.Verdicts.{outside_at, falls_at, on_odd_line_at, unless_at, verdict_of, verdict, passes, refusal_number, refusal_place}
-use Rattle.meaning.specs.Operations.{Operation, operation, joined_list, axis_of, pair_numbers}
-use Rattle.meaning.specs.Outcomes.{Values, Outcome, outcome, Nothing, nothing, done, refused, refusal, verdict_values, bad_number, bad_operation, no_room, no_room_for, empty_map, kept, named, checked, per_vertex, per_pair, fits, placed}
+use Rattle.meaning.specs.Operations.{operation, joined_list, axis_of, pair_numbers}
+use Rattle.meaning.specs.Outcomes.{Outcome, outcome, nothing, done, refused, refusal, verdict_values, bad_number, bad_operation, no_room, no_room_for, empty_map, kept, named, checked, per_vertex, per_pair, fits, placed}
 use Rattle.meaning.specs.Nearest.{nearest_of, nearest_outcome, nowhere}
 use Rattle.meaning.specs.declared.Verdict.{Verdict}
 use Rattle.meaning.specs.declared.Verdict.TheVariants.{Valid, NotTriples, TooMany, OutOfRange, NotRising, OddLine}
@@ -29,7 +29,7 @@ use Rattle.boxes.specs.Box.{good_ends, box_vertices, box_outcome}
 use Rattle.asks.specs.Asks.{report_on, cell_outcome, corner_outcome}
 use Rattle.asks.proofs.Planes.{count_le}
 use Rattle.joins.specs.Join.{joined_by, join_outcome}
-use Rattle.cuts.specs.Answers.{Halves, halves, section_pairs, section_outcome, lower_list, upper_list, placed_halves, split_outcome}
+use Rattle.cuts.specs.Answers.{halves, section_pairs, section_outcome, lower_list, upper_list, placed_halves, split_outcome}
 use Rattle.wishes.specs.Many.{many_of, many_outcome}
 use Rattle.packing.specs.Packed.{Few}
 

@@ -6,9 +6,9 @@
 -- Assumes nothing.
 use mathlib.Core.Path.{◌≡◌, refl, sym, ◌∙◌, ap, ap₂, subst, subst₂}
 use mathlib.Core.Bool.{Bool, true, false, not, ◌&&◌, ◌||◌, and-true}
-use mathlib.Core.List.{List, [], ◌∷◌, ◌++◌, map}
+use mathlib.Core.List.{List, ◌++◌, map}
 use mathlib.Core.Option.{some}
-use Prim.Native.Nat.{ℕ, ◌+◌, ◌*◌, ◌/◌, ◌%◌, ◌≤◌, ◌<◌, ◌^◌}
+use Prim.Native.Nat.{ℕ, ◌*◌, ◌/◌, ◌%◌, ◌≤◌, ◌<◌, ◌^◌}
 use native.Mathlib.Nat.{div-one}
 use native.Mathlib.Omega.{arith}
 use lib.Dec.{leb}
@@ -33,7 +33,7 @@ use Rattle.rising.proofs.Sums.{sum_merged, from_merged, all_merged}
 use Rattle.rows.specs.Rows.{or_exclusive, holds_by}
 use Rattle.turn.proofs.Lists.{front_of}
 use Rattle.levels.specs.Level.{Operand, plane_fits, PlaneOk, Joined}
-use Rattle.sweep.specs.Room.{Filled, InRoom, Working}
+use Rattle.sweep.specs.Room.{InRoom, Working}
 
 -- ---- keys of the sweep are keys of corners
 

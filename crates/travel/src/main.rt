@@ -2,17 +2,34 @@
 // for each input is `respond`'s promise, in crate `text`. It has no status of its own: where the output takes nothing, it ends all the same.
 #![tactic(auto)]
 
-use libc::{STDIN_FILENO, STDOUT_FILENO};
+ghost use Rattle.std.specs.Prelude.{◌≤◌, length};
+
+use std::io::{Read, Write};
 use text::{MOST_BYTES, MOST_WRITTEN};
 
 // Room for one byte more than the most that input may have, which shows that there are too many.
 const INPUT_ROOM: usize = MOST_BYTES + 1;
 
+// Reads until the room is full, the input ends or a read fails; answers how many bytes stand at its front.
+fn read_full<R: Read>(input: &mut R, room: &mut [u8]) -> usize
+    ensures { result ≤ length room.new }
+{
+    let mut done = 0;
+    while done < room.len() {
+        match input.read(&mut room[done..]) {
+            Ok(0) => break,
+            Ok(n) => done += n,
+            Err(_) => break,
+        }
+    }
+    done
+}
+
 // Reads standard input, to its end or to one byte past the limit, and writes what it comes to.
-fn main() {
+fn main(rt: HostRuntime) {
     let mut input = [0u8; INPUT_ROOM];
-    let read = io::read_full(STDIN_FILENO, &mut input);
+    let read = read_full(&mut rt.stdin(), &mut input);
     let mut output = [0u8; MOST_WRITTEN];
     let written = text::respond(&input[..read], &mut output);
-    io::write_all(STDOUT_FILENO, &output[..written]);
+    let _ = rt.stdout().write_all(&output[..written]);
 }

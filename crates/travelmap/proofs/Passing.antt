@@ -11,13 +11,12 @@ use mathlib.Core.List.{List}
 use Prim.Native.Nat.{ℕ, ◌*◌, ◌≤◌}
 use native.Mathlib.Omega.{arith}
 use lib.IntN.{ℤ}
-use lib.ListN.{length}
 use mir.Syntax.{w16}
 use mir.Val.{SFits, to_z, of_z}
 use mir.ValLaws.{to_z-of_z}
 use Rattle.meaning.specs.Numbers.{Cell, Corner, cell, corner}
 use Rattle.meaning.specs.Counting.{count}
-use Rattle.meaning.specs.Lists.{vertices, permitted, surrounding, how_many, most_vertices}
+use Rattle.meaning.specs.Lists.{vertices, permitted, surrounding, most_vertices}
 use Rattle.meaning.specs.Verdicts.{verdict, passes, refusal_place}
 use Rattle.meaning.specs.Outcomes.{Values, Outcome, outcome, Nothing, nothing, done, refused, kept, verdict_values}
 use Rattle.meaning.specs.Nearest.{Reached}

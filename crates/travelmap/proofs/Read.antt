@@ -5,18 +5,18 @@
 --   nearest_read, distance_read                                  number, operand, place; the three codes; the distance
 -- No premise says what fits: that is shown. A wish is three numbers of 16 bits.
 -- Assumes nothing.
-use mathlib.Core.Path.{◌≡◌, refl, sym, ◌∙◌, ap, subst}
+use mathlib.Core.Path.{◌≡◌, refl, ◌∙◌, ap, subst}
 use mathlib.Core.Bool.{Bool, true, false, cond, true≢false}
 use mathlib.Core.List.{List, [], ◌∷◌}
-use Prim.Native.Nat.{ℕ, ◌+◌, ◌*◌, ◌-◌, ◌^◌, ◌≤◌, ◌<◌}
+use Prim.Native.Nat.{ℕ, ◌+◌, ◌-◌, ◌^◌, ◌<◌}
 use native.Mathlib.Omega.{arith}
 use borrow.Author.Tests.{eq-eqb, ne_eqb}
 use lib.Dec.{eqb}
 use lib.IntN.{ℤ}
 use mir.Syntax.{w16}
 use mir.Val.{SFits}
-use Rattle.meaning.specs.Numbers.{focus, first, second, Cell, Corner, cell, is_code, is_cell}
-use Rattle.meaning.specs.Lists.{vertices, permitted, surrounding, how_many, Rising}
+use Rattle.meaning.specs.Numbers.{Cell, Corner, cell, is_code}
+use Rattle.meaning.specs.Lists.{vertices, permitted, Rising}
 use Rattle.meaning.specs.Kinds.{bit}
 use Rattle.meaning.specs.Verdicts.{verdict, passes, refusal_number}
 use Rattle.meaning.specs.Outcomes.{Values, Outcome, outcome, Nothing, nothing, done, refused, empty_map, kept}
@@ -31,7 +31,7 @@ use Rattle.codes.proofs.Laws.{above, lifted_fits, code_fits}
 use Rattle.nearest.proofs.Distances.{gap_lifted}
 use Rattle.lists.specs.Check.{check_outcome}
 use Rattle.boxes.specs.Box.{box_outcome}
-use Rattle.asks.specs.Asks.{Report, report, report_on, cell_outcome, corner_outcome, plane_ends}
+use Rattle.asks.specs.Asks.{report, report_on, cell_outcome, corner_outcome, plane_ends}
 use Rattle.joins.specs.Join.{join_outcome}
 use Rattle.cuts.specs.Answers.{section_outcome, split_outcome}
 use Rattle.wishes.specs.Many.{many_outcome}

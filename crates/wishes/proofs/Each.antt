@@ -9,14 +9,14 @@
 use mathlib.Core.Path.{◌≡◌, refl, sym, ◌∙◌, ap, ap₂, subst}
 use mathlib.Core.Bool.{Bool, true, false, true≢false, false≢true}
 use mathlib.Core.List.{List, [], ◌∷◌, map}
-use Prim.Native.Nat.{ℕ, ◌+◌, ◌*◌, ◌/◌, ◌<◌}
+use Prim.Native.Nat.{◌*◌, ◌/◌, ◌<◌}
 use native.Mathlib.Omega.{arith}
-use lib.IntN.{ℤ, pos}
-use lib.ListN.{length, set, length-map}
-use Rattle.meaning.specs.Numbers.{Cell, Corner, cell}
+use lib.IntN.{ℤ}
+use lib.ListN.{length}
+use Rattle.meaning.specs.Numbers.{Cell, Corner}
 use Rattle.meaning.specs.Lists.{vertices, permitted, Rising}
 use Rattle.meaning.specs.Verdicts.{verdict, passes}
-use Rattle.meaning.specs.Nearest.{Nearest, IsNearest}
+use Rattle.meaning.specs.Nearest.{IsNearest}
 use Rattle.meaning.proofs.Checked.{passes_valid}
 use Rattle.meaning.proofs.Closest.{nearest_exists, nearest_unique}
 use Rattle.meaning.proofs.Maps.{valid_within, some_permitted}

@@ -3,8 +3,7 @@
 --   wishes_from                        the wish from a place on, and those behind it
 --   Putting                            so far; putting_begins, putting_room, puts, putting_ends
 -- Assumes nothing.
-use mathlib.Core.Path.{◌≡◌, refl, sym, ◌∙◌, ap, ap₂, subst}
-use mathlib.Core.Bool.{true}
+use mathlib.Core.Path.{◌≡◌, refl, sym, ◌∙◌, ap, subst}
 use mathlib.Core.List.{List, [], ◌∷◌, ◌++◌, map}
 use Prim.Native.Nat.{ℕ, suc, ◌+◌, ◌%◌, ◌≤◌, ◌<◌}
 use native.Mathlib.Omega.{arith}
@@ -12,10 +11,10 @@ use native.Mathlib.Numerals.{add-one}
 use lib.IntN.{ℤ, pos}
 use lib.ListN.{length, drop, set, get_or, drop_of_length-le}
 use lib.Seq.{drop-cons}
-use Rattle.meaning.specs.Numbers.{Cell, Corner}
+use Rattle.meaning.specs.Numbers.{Corner}
 use Rattle.meaning.specs.Lists.{vertices, permitted}
 use Rattle.meaning.specs.Nearest.{Nearest}
-use Rattle.meaning.specs.Verdicts.{verdict, passes}
+use Rattle.meaning.specs.Verdicts.{passes}
 use Rattle.rising.proofs.Written.{Written, none, several, to_come, all}
 use Rattle.wishes.specs.Many.{wishes, cell_numbers}
 use Rattle.wishes.specs.Each.{wish_from, NearestPut, Wishable, EachPut}

@@ -5,7 +5,7 @@
 --   many_outcome                 1 to 5 of the list; then 1 of the wishes, as the second list; then 7 of the empty list; then 6 where the cells do
 --                               not fit; else done: the cells stand at the front of the result
 --   ManyAnswered                the promise
-use Rattle.std.specs.Prelude.{◌≡◌, cond, List, [], ◌∷◌, ℕ, ◌*◌, ◌%◌, leb, eqb, ℤ, length}
+use Rattle.std.specs.Prelude.{◌≡◌, cond, List, [], ◌∷◌, ◌*◌, ◌%◌, leb, eqb, ℤ, length}
 use Rattle.meaning.specs.Numbers.{Cell, Corner, cell}
 use Rattle.meaning.specs.Lists.{vertices}
 use Rattle.meaning.specs.Verdicts.{verdict}

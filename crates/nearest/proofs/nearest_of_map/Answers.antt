@@ -43,7 +43,7 @@ ready : (c : After-lift-d) → Askable c.args.list.now c.lift-a.result c.lift-b.
 ready c =
     record {
       valid = valid_list c.args.list.now c.requires;
-      some = not_empty c.args.list.now c.requires c.if-list-eq0.false;
+      some = not_empty c.args.list.now c.requires (λ (e : length c.args.list.now ≡ 0). omega arith);
       wish = ((on_focus c).1, (on_first c).1, (on_second c).1);
     }
 

@@ -1,0 +1,50 @@
+-- `levels::join_planes` meets its contract: each call of the loop's body asks, and each turn leaves, what the laws of a plane say.
+use mathlib.Core.Path.{◌∙◌}
+use native.Mathlib.Omega.{arith}
+use Rattle.levels.proofs.Sections.{lends, begins, asks_next, asks_changes, asks_a, asks_b, short, again, done}
+use Rattle.levels.proofs.join_planes.Goals as goal
+
+pub loop-i-init : goal.loop-i-init
+loop-i-init c =
+    let p = c.requires in
+    let least = c.least_number in
+    let low = c.least_number-low in
+    let most = c.greatest_number in
+    let high = c.greatest_number-high in
+    begins p.operand.0 p.operand.1
+    (lends least.result low.result most.result high.result p.a_in_bounds p.a_len_bound least.ensures low.ensures most.ensures high.ensures)
+
+pub next-plane-requires-clause-all : goal.next-plane-requires-clause-all
+next-plane-requires-clause-all c = (asks_next c.loop-i.invariant c.loop-i-test.true).1.1.1.1
+
+pub changes-n-requires-clause-planes : goal.changes-n-requires-clause-planes
+changes-n-requires-clause-planes c = (asks_changes c.loop-i.invariant c.next-plane.ensures).0
+
+pub returns-then-out-n : goal.returns-then-out-n
+returns-then-out-n c =
+    short c.loop-i.invariant c.next-plane.ensures c.changes-n.ensures (omega (arith, c.changes-n.ensures.put.long, c.if-out-n.true))
+
+pub take_in-na-requires-clause-all : goal.take_in-na-requires-clause-all
+take_in-na-requires-clause-all c =
+    (asks_a c.loop-i.invariant c.next-plane.ensures c.loop-i.room c.loop-i.invariant.long_room).1.1.0
+
+pub take_in-na-requires-clause-all_2 : goal.take_in-na-requires-clause-all_2
+take_in-na-requires-clause-all_2 c =
+    (asks_a c.loop-i.invariant c.next-plane.ensures c.loop-i.room c.loop-i.invariant.long_room).1.1.1
+
+pub take_in-nb-requires-clause-all : goal.take_in-nb-requires-clause-all
+take_in-nb-requires-clause-all c =
+    (asks_b c.loop-i.invariant c.next-plane.ensures c.loop-i.room c.loop-i.invariant.long_room).1.1.0
+
+pub take_in-nb-requires-clause-all_2 : goal.take_in-nb-requires-clause-all_2
+take_in-nb-requires-clause-all_2 c =
+    (asks_b c.loop-i.invariant c.next-plane.ensures c.loop-i.room c.loop-i.invariant.long_room).1.1.1
+
+pub loop-i-preserved : goal.loop-i-preserved
+loop-i-preserved c =
+    again c.loop-i.invariant c.next-plane.ensures c.changes-n.ensures (omega (arith, c.changes-n.ensures.put.long, c.if-out-n.false))
+    c.take_in-na.ensures c.take_in-nb.ensures
+    c.take_in-na.auto.sec c.take_in-nb.auto.sec (c.take_in-nb.auto.room ∙ c.take_in-na.auto.room)
+
+pub returns : goal.returns
+returns c = done c.loop-i.invariant c.loop-i-test.false

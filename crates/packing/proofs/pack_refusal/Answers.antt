@@ -1,0 +1,8 @@
+-- `packing::pack_refusal` meets its contract: a place is that of one of few vertices.
+use native.Mathlib.Omega.{arith}
+use Rattle.meaning.specs.Lists.{most_vertices}
+use Rattle.packing.proofs.pack_refusal.Goals as goal
+
+pub overflow_cast-place_of : goal.overflow_cast-place_of
+unfolding most_vertices
+overflow_cast-place_of c = omega arith

@@ -1,0 +1,11 @@
+-- `packing::pack_section` meets its contract, case by case.
+use mathlib.Core.Path.{subst}
+use native.Mathlib.Omega.{arith}
+use Rattle.meaning.specs.Lists.{most_vertices}
+use Rattle.cuts.specs.Answers.{section_values}
+use Rattle.packing.specs.Packed.{Few}
+use Rattle.packing.proofs.pack_section.Goals as goal
+
+pub overflow_cast-count : goal.overflow_cast-count
+unfolding most_vertices
+overflow_cast-count c = let few = subst (λ a. Few (section_values a)) c.in-Done.is c.requires in omega arith

@@ -1,0 +1,5 @@
+use Rattle.std.proofs.lemmas.Int.{to_z-of_z}
+use Rattle.travelmap_c.proofs.travelmap_nearest.Goals as goal
+
+pub returns : goal.returns
+returns c = simp (to_z-of_z, c.ranges.focus, c.ranges.first, c.ranges.second) at c.travelmap_nearest.ensures

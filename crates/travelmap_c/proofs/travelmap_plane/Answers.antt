@@ -1,0 +1,5 @@
+use Rattle.std.proofs.lemmas.Int.{to_z-of_z}
+use Rattle.travelmap_c.proofs.travelmap_plane.Goals as goal
+
+pub returns : goal.returns
+returns c = simp (to_z-of_z, c.ranges.focus) at c.travelmap_plane.ensures
