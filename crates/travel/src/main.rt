@@ -2,24 +2,26 @@
 // for each input is `respond`'s promise, in crate `text`. It has no status of its own: where the output takes nothing, it ends all the same.
 #![tactic(auto)]
 
-ghost use Rattle.std.specs.Prelude.{◌≤◌, length};
+ghost use Rattle.std.specs.Prelude.{◌≤◌, length, take};
+ghost use Rattle.std.specs.Io.KnownBytes.{Consumes};
 
-use std::io::{Read, Write};
+use std::io::Read;
 use text::{MOST_BYTES, MOST_WRITTEN};
 
 // Room for one byte more than the most that input may have, which shows that there are too many.
 const INPUT_ROOM: usize = MOST_BYTES + 1;
 
-// Reads until the room is full, the input ends or a read fails; answers how many bytes stand at its front.
+// Reads until the room is full, the input ends or a read fails; answers how many bytes stand at its front. They are the input's next ones, and no others
+// are taken from it.
 fn read_full<R: Read>(input: &mut R, room: &mut [u8]) -> usize
-    ensures { result ≤ length room.new }
+    ensures bound { result ≤ length room.new }
+    ensures bytes { Consumes (R.remaining input.old) (R.remaining input.new) (take result room.new) }
 {
     let mut done = 0;
     while done < room.len() {
         match input.read(&mut room[done..]) {
-            Ok(0) => break,
+            Ok(0) | Err(_) => break,
             Ok(n) => done += n,
-            Err(_) => break,
         }
     }
     done
@@ -31,5 +33,5 @@ fn main(rt: HostRuntime) {
     let read = read_full(&mut rt.stdin(), &mut input);
     let mut output = [0u8; MOST_WRITTEN];
     let written = text::respond(&input[..read], &mut output);
-    let _ = rt.stdout().write_all(&output[..written]);
+    let _ = rt.write_all(&output[..written]);
 }
