@@ -1,7 +1,6 @@
 //! Finds the static library of the proved functions, and the program as a static library beside it (host/library writes
-//! both). Where they were compiled for this machine the linker is told of them; where the library was compiled for
-//! x86-64 and this machine is another, it is linked into far/far.c with the program's object file, and the host runs
-//! that under an emulator.
+//! both, for x86-64). There the linker is told of them. Where this machine is another and they were brought to it, the
+//! library is linked into far/far.c with the program's object file, and the host runs that under an emulator.
 
 use std::env::{var, var_os};
 use std::path::{Path, PathBuf};
@@ -11,16 +10,12 @@ use std::process::Command;
 const X86_64: u16 = 0x3E;
 const AARCH64: u16 = 0xB7;
 
-/// The folder of all that is built.
-fn target() -> PathBuf {
-    PathBuf::from(var_os("CARGO_MANIFEST_DIR").expect("cargo sets it")).join("../target")
-}
-
 /// The folder with the library: the variable TRAVELMAP_LIB where it is set, else target/host-lib.
 fn folder() -> PathBuf {
     match var_os("TRAVELMAP_LIB") {
         Some(folder) => PathBuf::from(folder),
-        None => target().join("host-lib"),
+        None => PathBuf::from(var_os("CARGO_MANIFEST_DIR").expect("cargo sets it"))
+            .join("../target/host-lib"),
     }
 }
 
@@ -41,9 +36,9 @@ fn machine_of_host() -> Option<u16> {
     }
 }
 
-/// The object file of the program as `rt` leaves it, for x86-64.
+/// The object file of the program as it was compiled, for x86-64.
 fn far_program() -> PathBuf {
-    target().join("obj/travel.o")
+    folder().join("travel.o")
 }
 
 /// Compiles far.c for x86-64 and links the library and the program into it; answers where the result is.
@@ -60,7 +55,7 @@ fn build_far(library: &Path) -> PathBuf {
         .status();
     assert!(
         done.is_ok_and(|status| status.success()),
-        "the library is for x86-64, and clang could not link it and target/obj/travel.o into far/far.c"
+        "the library is for x86-64, and clang could not link it and travel.o into far/far.c"
     );
     program
 }

@@ -114,6 +114,16 @@ long write(int file, const void *from, size_t n) {
     return (long)n;
 }
 
+/* What else the program calls of a C library: the error of a call that failed, and as it starts how a signal is taken
+   and what the processor has, here all that it asks for. */
+int rattle_errno(void) { return 5; }
+long __write(int file, const void *from, size_t n) { return write(file, from, n); }
+void *__sysv_signal(int number, void *taken_by) { return number ? 0 : taken_by; }
+const u32 *__x86_get_cpuid_feature_leaf(u32 leaf) {
+    static const u32 all[8] = {~0u, ~0u, ~0u, ~0u, ~0u, ~0u, ~0u, ~0u};
+    return leaf < 64 ? all : 0;
+}
+
 /* Runs the program; answers how many bytes it wrote. */
 static u64 run(void) {
     taken = written = 0;

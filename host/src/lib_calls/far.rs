@@ -1,6 +1,6 @@
 //! The calls where the library was compiled for x86-64 and this machine is another: far/far.c, linked with the
 //! library, runs under an emulator and is asked through pipes. The emulator is the program that the variable
-//! TRAVELMAP_EMULATOR names, else qemu-x86_64 on the path, else the one of the Rattle kit, beside `rt`.
+//! TRAVELMAP_EMULATOR names, else qemu-x86_64 on the path.
 
 use std::io::{Read, Write};
 use std::path::PathBuf;
@@ -46,23 +46,10 @@ fn stop(why: &str) -> ! {
     exit(1)
 }
 
-/// Where the emulator is.
+/// The emulator.
 fn emulator() -> PathBuf {
-    if let Some(named) = std::env::var_os("TRAVELMAP_EMULATOR") {
-        return named.into();
-    }
-    let path = std::env::var_os("PATH").unwrap_or_default();
-    let folders: Vec<PathBuf> = std::env::split_paths(&path).collect();
-    let on_path = folders.iter().map(|folder| folder.join("qemu-x86_64"));
-    let tools = format!("on/{}/toolchain/bin/qemu-x86_64", std::env::consts::ARCH);
-    let in_kit = folders.iter().filter_map(|folder| {
-        let rt = folder.join("rt").canonicalize().ok()?;
-        Some(rt.parent()?.parent()?.join(&tools))
-    });
-    let mut places = on_path.chain(in_kit);
-    places
-        .find(|place| place.exists())
-        .unwrap_or("qemu-x86_64".into())
+    let named = std::env::var_os("TRAVELMAP_EMULATOR");
+    named.unwrap_or("qemu-x86_64".into()).into()
 }
 
 /// Starts the program.

@@ -1,10 +1,11 @@
--- `travel::read_full` meets its contract: what was read lies within the room.
-use Prim.Native.Nat.{◌-◌, ◌≤◌}
-use lib.ListN.{length}
+-- `read_full` ends, since each turn leaves less to fill, and what it filled is what it consumed.
+use Rattle.std.proofs.Common.{◌≡◌, ◌-◌, ◌≤◌, length, take}
+use Rattle.std.specs.Io.KnownBytes.{Consumes}
 use Rattle.travel.proofs.read_full.Given as goal
 
 abbrev pub invariant-loop-done : goal.invariant-loop-done
-invariant-loop-done g l = l.done ≤ length l.room
+invariant-loop-done g l = (length l.room ≡ length l.initial.room) × (l.done ≤ length l.room)
+    × Consumes (g.R.Read.remaining l.initial.input) (g.R.Read.remaining l.input) (take l.done l.room)
 
 abbrev pub decreases-loop-done : goal.decreases-loop-done
-decreases-loop-done g l = length l.initial.room - l.done
+decreases-loop-done g l = length l.room - l.done
