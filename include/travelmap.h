@@ -11,7 +11,8 @@
    Beyond that every argument may have any value: a list need not be valid, and every number that is asked about may be
    any int16_t.
    Nothing is kept after a call, no memory is taken, and functions may be called from several threads at once. Working
-   arrays stand on the stack: have 64 KB of it free for a call (measured: at most 46 KB; docs/BENCH.md).
+   arrays stand on the stack: have 64 KB of it free for a call (measured, with an earlier toolchain: at most
+   46 KB; docs/BENCH.md).
 
    What comes back. Every function answers one uint64_t, laid out as
 
