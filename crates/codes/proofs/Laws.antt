@@ -3,7 +3,7 @@
 --   lowered_lifted, lifted_lowered        there and back
 --   lifted_once                           two numbers with one crossing are equal
 --   lowered_fits                          what comes back has 16 bits
---   read-back                             a number that was read comes back from its bits
+--   read_back                             a number that was read comes back from its bits
 --   is_number_lifted, is_code_lifted        the ranges, after the crossing
 --   lifted_steps, lifted_number           the crossing of a number from the lowest up, or of a corner number, is its steps and 32256
 --   number_from, number_to                a corner number is from the lowest up, and at most the last

@@ -1,7 +1,7 @@
 -- Laws of frames.
 --   value-..                 the value of a byte, by where it lies among the digits
 --   Values                   the values of the four bytes at a place
---   four-ill, four_whole     four digits of which one is none; four digits
+--   four_ill₁ to ₄, four_whole   four digits of which one is none; four digits
 --   line-..                  a line at a place, by what is found there; where there is one, its bytes are there
 --   together-..              three numbers of which one is ill formed
 --   digit_low, digit_high    the digit of four bits

@@ -2,7 +2,7 @@
 --   reads_beside     whatever stands in the lower half, the number, the operand and the place are read above it
 --   reads_values     the values that every answer carries, counts and all
 --   reads_part       the plane query
---   reads-codes      the three codes of a cell that is found
+--   codes_cell       the three codes of a cell that is found
 -- Assumes nothing.
 use mathlib.Core.Path.{◌≡◌, refl, sym, ◌∙◌, ap}
 use mathlib.Core.Bool.{Bool, true, false, cond}
