@@ -40,7 +40,15 @@ WORD = re.compile(r"[^\s(){}\[\];,.λ«»\"|:`]+")
 DECLARED = re.compile(r"^[ ]*(?:(?:abbrev|pub|unfoldable) )*((?:[^\s(){}\[\];,.:«»]+ )+):(?= |$)", re.M)
 TYPED = re.compile(r"^[ ]*(?:pub )?(?:record|data) (\S+)", re.M)
 BOUND = re.compile(r"[({]((?:[^\s(){}\[\];,.:«»]+ )+): ")
-GOAL = re.compile(r"^((?:abbrev )?(?:pub )?)(\S+) : tie\.(?:Need|invariant|decreases)", re.M)
+GOAL = re.compile(r"^((?:abbrev )?(?:pub )?)(\S+) : (?:tie\.(?:Need|invariant|decreases)|goal\.)", re.M)
+
+
+def of_a_function(path):
+    """Whether a file is of a function's proof, in a folder of its own: what it answers has names that the toolchain makes."""
+    folder, name = os.path.split(path)
+    return os.path.basename(folder) != "proofs" and name in ("Proof.antt", "Answers.antt", "Invariants.antt")
+
+
 USE = re.compile(r"^(?:pub )?use ([\w.\-+]+)\.\{([^}]*)\}", re.M)
 OWN_MODULE = re.compile(r"Rattle\.\w+\.(?:specs|proofs)\.[A-Z]\w*")
 
@@ -68,7 +76,7 @@ def without_notes(text):
 
 
 def snake(name):
-    """`atOrBelow` and `at-or-below` as `at_or_below`; a name that begins with a capital is a type, and stays."""
+    """`atOrBelow` and `at-or-below` as `at_or_below`, `⊕-comm` as `⊕_comm`; a name that begins with a capital is a type, and stays."""
     name = name.replace("-", "_")
     if name[0].islower():
         name = re.sub(r"(?<=[a-z0-9'])([A-Z])", lambda m: "_" + m.group(1).lower(), name)
@@ -86,7 +94,7 @@ def names(root):
                 library |= {it.split(" as ")[0].strip() for it in items.split(",")}
             own |= {it.split(" as ")[1].strip() for it in items.split(",") if " as " in it}
         code = without_notes(text)
-        if os.path.basename(path) == "Proof.antt":
+        if of_a_function(path):
             made = {name for _, name in GOAL.findall(code)}
             goals |= made
         else:
@@ -94,7 +102,7 @@ def names(root):
         for group in DECLARED.findall(code):
             own |= set(group.split()) - made
         own |= set(TYPED.findall(code))
-        if os.path.basename(path) != "Proof.antt":
+        if not of_a_function(path):
             for group in BOUND.findall(code):
                 own |= set(group.split())
     own = {n for n in own if not n.endswith("-spec")}
@@ -103,7 +111,7 @@ def names(root):
     for name in sorted(own - library):
         if name in OTHER:
             out[name] = OTHER[name]
-        elif name[0].isalpha() and name[0].islower() and snake(name) != name:
+        elif (name[0].islower() or name[0] == "⊕") and snake(name) != name:
             out[name] = snake(name)
     aliases = {it.split(" as ")[1].strip() for path in files(root, ".antt", ".rt") for it in re.findall(r"[\w·]+ as [\w·]+", read(path))}
     out.update({k: v for k, v in OTHER.items() if k in aliases})
@@ -135,7 +143,7 @@ FIELD = re.compile(r"^[ ]+(?:pub )?([^\s(){}\[\];,.:«»]+) : ", re.M)
 def fields(root):
     out = set()
     for path in files(root, ".antt"):
-        if os.path.basename(path) == "Proof.antt":
+        if of_a_function(path):
             continue
         block = False
         for line in without_notes(read(path)).split("\n"):
@@ -198,7 +206,7 @@ def main(argv):
         text = read(path)
         everywhere = out
         out = everywhere | IN_NOTES | IN_CRATE.get(os.path.relpath(path, os.path.join(root, "crates")).split(os.sep)[0], {})
-        if os.path.basename(path) == "Proof.antt":
+        if of_a_function(path):
             here = {name for _, name in GOAL.findall(text)}
             aliases = set(re.findall(r"^use \S+ as (\S+)", text, re.M)) | {"tie"}
 
@@ -207,7 +215,7 @@ def main(argv):
                     return True
                 if at and text[at - 1] == ".":
                     head = re.search(r"([^\s(){}\[\];,.]*)\.$", text[:at]).group(1)
-                    if head == "tie":
+                    if head in ("tie", "goal"):
                         return True
                     return w not in own_fields and head not in aliases
                 return False

@@ -14,7 +14,7 @@ use lib.Signed.{le_z}
 use lib.ListN.{length, drop}
 use Rattle.meaning.specs.Numbers.{Cell, Corner}
 use Rattle.meaning.specs.Lists.{vertices, at_or_below, permitted, surrounding, weigh, mask}
-use Rattle.meaning.proofs.Parity.{◌⊕◌, ⊕-false, ⊕-assoc}
+use Rattle.meaning.proofs.Parity.{◌⊕◌, ⊕_false, ⊕_assoc}
 use Rattle.meaning.proofs.Integers.{lt_z_le_z}
 use Rattle.asks.specs.Passes.{vertex_at, side, over}
 use Rattle.asks.proofs.Passes.{le_z_pred, vertices_drop, vertices_end, permitted_cons}
@@ -115,7 +115,7 @@ module _ (ns : List ℤ) (v : Corner) where
     so = λ c. s.so c ⊕ at_or_below c (vertex_at ns i);
     is = ap₂ bit_xor s.is e ∙ xor_weigh s.so (λ c. at_or_below c (vertex_at ns i)) (surrounding v);
     whole = λ c.
-        ⊕-assoc (s.so c) (at_or_below c (vertex_at ns i)) (permitted (vertices (drop (i + 3) ns)) c)
+        ⊕_assoc (s.so c) (at_or_below c (vertex_at ns i)) (permitted (vertices (drop (i + 3) ns)) c)
         ∙ ap (s.so c ⊕◌) (sym (ap (λ l. permitted l c) (vertices_drop ns i h) ∙ permitted_cons (vertex_at ns i) (vertices (drop (i + 3) ns)) c))
         ∙ s.whole c;
   }
@@ -124,4 +124,4 @@ module _ (ns : List ℤ) (v : Corner) where
   so_far_all i m h s = s.is ∙ ap (λ S. weigh (map S (surrounding v))) same
     where
       same : s.so ≡ permitted (vertices ns)
-      same = λ j c. (sym (⊕-false (s.so c)) ∙ ap (λ l. s.so c ⊕ permitted l c) (sym (vertices_end ns i h)) ∙ s.whole c) j
+      same = λ j c. (sym (⊕_false (s.so c)) ∙ ap (λ l. s.so c ⊕ permitted l c) (sym (vertices_end ns i h)) ∙ s.whole c) j

@@ -23,7 +23,7 @@ use mir.Val.{SFits, to_z, of_z}
 use mir.ValLaws.{to_z-of_z}
 use Rattle.meaning.specs.Numbers.{Cell, Corner}
 use Rattle.meaning.specs.Lists.{vertices, at_or_below, permitted}
-use Rattle.meaning.proofs.Parity.{◌⊕◌, ⊕-false, ⊕-assoc, odd_count}
+use Rattle.meaning.proofs.Parity.{◌⊕◌, ⊕_false, ⊕_assoc, odd_count}
 use Rattle.codes.specs.Lift.{lifted, lowered}
 use Rattle.codes.proofs.Laws.{lifted_lt, lifted_lowered, lowered_lifted, lowered_fits}
 use Rattle.codes.proofs.Shift.{down_below, down_not}
@@ -118,13 +118,13 @@ module _ (ns : List ℤ) (c : Cell) where
       record {
         whole =
             ap (◌⊕ rest) (xor_⊕ o b)
-            ∙ ⊕-assoc o b rest
+            ∙ ⊕_assoc o b rest
             ∙ ap (o ⊕◌) (ap (◌⊕ rest) e ∙ sym (ap (λ l. permitted l c) (vertices_drop ns i h) ∙ permitted_cons (vertex_at ns i) (vertices (drop (i + 3) ns)) c))
             ∙ s.whole;
       }
 
   pub odd_all : (i : ℕ) (o : Bool) → length ns ≤ i + 2 → OddSoFar ns c i o → o ≡ permitted (vertices ns) c
-  odd_all i o h s = sym (⊕-false o) ∙ ap (λ l. o ⊕ permitted l c) (sym (vertices_end ns i h)) ∙ s.whole
+  odd_all i o h s = sym (⊕_false o) ∙ ap (λ l. o ⊕ permitted l c) (sym (vertices_end ns i h)) ∙ s.whole
 
 -- a number and its crossing, as a machine hands it on
 pub crossing : (z : ℤ) (u : ℕ) → SFits w16 z → u ≡ lifted (to_z w16 (of_z w16 z)) → u ≡ lifted z

@@ -22,7 +22,7 @@ use Rattle.meaning.specs.Lists.{numbers, at_or_below, permitted, below, Rising, 
 use Rattle.meaning.specs.OneList.{one_list, WithinCodes}
 use Rattle.meaning.specs.Operations.{between, box_cells}
 use Rattle.meaning.specs.Outcomes.{Values, Outcome, Nothing, nothing, bad_number, kept, per_vertex, fits, front, placed}
-use Rattle.meaning.proofs.Parity.{◌⊕◌, ⊕-false, ⊕-assoc, ⊕-and, and_⊕, odd_count}
+use Rattle.meaning.proofs.Parity.{◌⊕◌, ⊕_false, ⊕_assoc, ⊕_and, and_⊕, odd_count}
 use Rattle.meaning.proofs.Integers.{and_left, and_right, and_both, le_z_refl, le_z_trans, lt_z_not, lt_z_le, lt_z_le_z, lt_z_trans, under_number}
 use Rattle.meaning.proofs.Outcomes.{placed_fits, placed_short}
 use Rattle.meaning.proofs.Maps.{is_one_list, one_valid}
@@ -131,7 +131,7 @@ eight : (a a' b b' d d' : Bool) →
     ((a && (b && d)) ⊕ ((a && (b && d')) ⊕ ((a && (b' && d)) ⊕ ((a && (b' && d')) ⊕
     ((a' && (b && d)) ⊕ ((a' && (b && d')) ⊕ ((a' && (b' && d)) ⊕ ((a' && (b' && d')) ⊕ false)))))))) ≡
     ((a ⊕ a') && ((b ⊕ b') && (d ⊕ d')))
-eight a a' b b' d d' = simp (⊕-and, and_⊕, ⊕-assoc, ⊕-false)
+eight a a' b b' d d' = simp (⊕_and, and_⊕, ⊕_assoc, ⊕_false)
 
 module _ (a a' b b' d d' : ℤ) (ea : Ends a a') (eb : Ends b b') (ed : Ends d d') where
   eight_rising : Rising (eight_corners a a' b b' d d')

@@ -15,7 +15,7 @@ use lib.ListN.{length, get_or, take, set, length-set, replicate, get_or-replicat
 use lib.Seq.{get_or-set_same, get_or-set_other, take-suc, take_all}
 use borrow.Author.Tests.{eqb-true, eqb-false, eq-eqb, ne_eqb}
 use Rattle.meaning.specs.Counting.{odd}
-use Rattle.meaning.proofs.Parity.{◌⊕◌, ⊕-comm, ⊕-false, sum, sum_append}
+use Rattle.meaning.proofs.Parity.{◌⊕◌, ⊕_comm, ⊕_false, sum, sum_append}
 use Rattle.rows.specs.Rows.{bit, bit_at}
 use Rattle.rows.proofs.Bits.{bit_xor_lem, bit_one, bit_zero, odd_none, odd_odd}
 use Rattle.cells.specs.Cells.{line_unit}
@@ -41,7 +41,7 @@ toggled at row h = record { long = length-set row (at / 64) _; bits = λ x u. go
         ap (λ (i : ℕ). bit (get_or (set row (at / 64) word) i 0) (x % 64)) (sym s) ∙
         ap (λ n. bit n (x % 64)) (get_or-set_same row (at / 64) word 0 (omega arith)) ∙
         bit_xor_lem (get_or row (at / 64) 0) ((1 * 2 ^ (at % 64)) % 2 ^ 64) (x % 64) ∙
-        ⊕-comm (bit (get_or row (at / 64) 0) (x % 64)) _ ∙
+        ⊕_comm (bit (get_or row (at / 64) 0) (x % 64)) _ ∙
         ap₂ ◌⊕◌ (bit_one (at % 64) (x % 64) (omega arith) (omega arith) ∙ same x s) (ap (λ (i : ℕ). bit (get_or row i 0) (x % 64)) s)
     go x false e =
         let d = eqb-false (at / 64) (x / 64) e in
@@ -78,8 +78,8 @@ tells_on l row row' i h small t f =
       bits = λ x u.
           f.bits x (omega (arith, t.long)) ∙
           ap (eqb (get_or l i 0) x ⊕◌) (t.bits x u) ∙
-          ⊕-comm (eqb (get_or l i 0) x) (sum (λ k. eqb k x) (take i l)) ∙
-          ap (sum (λ k. eqb k x) (take i l) ⊕◌) (sym (⊕-false (eqb (get_or l i 0) x))) ∙
+          ⊕_comm (eqb (get_or l i 0) x) (sum (λ k. eqb k x) (take i l)) ∙
+          ap (sum (λ k. eqb k x) (take i l) ⊕◌) (sym (⊕_false (eqb (get_or l i 0) x))) ∙
           sym (sum_append (λ k. eqb k x) (take i l) (get_or l i 0 ∷ [])) ∙
           ap (sum (λ k. eqb k x)) (sym (take-suc l i 0 h) ∙ ap (λ (n : ℕ). take n l) (sym (add-one i)));
     }

@@ -16,7 +16,7 @@ use lib.Dec.{leb, ltb, eqb}
 use lib.ListN.{length, get_or, take, length-map}
 use lib.Seq.{take-suc, take_all}
 use borrow.Author.Tests.{eqb-true, ltb-true, ltb-false}
-use Rattle.meaning.proofs.Parity.{◌⊕◌, ⊕-false, sum, sum_append, sum_ext}
+use Rattle.meaning.proofs.Parity.{◌⊕◌, ⊕_false, sum, sum_append, sum_ext}
 use Rattle.rising.specs.Merged.{less_base}
 use Rattle.ranks.specs.declared.Scale.{Scale}
 use Rattle.ranks.specs.Values.{axis_codes, value, Sound}
@@ -140,7 +140,7 @@ pub odd_next : (f : ℕ → Bool) (l : List ℕ) (i : ℕ) (o b : Bool) → i < 
     → not (beq o b) ≡ sum f (take (i + 1) l)
 odd_next f l i o b h p q =
     xor_⊕ o b ∙
-    ap₂ ◌⊕◌ p (q ∙ sym (⊕-false (f (get_or l i 0)))) ∙
+    ap₂ ◌⊕◌ p (q ∙ sym (⊕_false (f (get_or l i 0)))) ∙
     sym (sum_append f (take i l) (get_or l i 0 ∷ [])) ∙
     ap (sum f) (sym (take-suc l i 0 h) ∙ ap (λ (n : ℕ). take n l) (sym (add-one i)))
   where

@@ -14,7 +14,7 @@ use Prim.Native.Nat.{ℕ, zero, suc, ◌+◌, ◌-◌, ◌≤◌, ◌<◌}
 use native.Mathlib.Omega.{arith}
 use lib.Dec.{leb, ltb, eqb}
 use borrow.Author.Tests.{leb-true, leb-false, ltb-true, ltb-false, le-leb, lt-leb, eq-eqb, ne_eqb}
-use Rattle.meaning.proofs.Parity.{◌⊕◌, ⊕-and, sum, sum_⊕, sum_ext}
+use Rattle.meaning.proofs.Parity.{◌⊕◌, ⊕_and, sum, sum_⊕, sum_ext}
 use Rattle.ranks.specs.Values.{behind}
 use Rattle.ranks.proofs.Costs.{Away, behind_above, behind_upto}
 
@@ -140,4 +140,4 @@ turns_sum hi p l zero = sum_ext (λ k. leb (hi k) 0 && p k) (λ k. eqb (hi k) 0 
 turns_sum hi p l (suc n) =
     sym (sum_⊕ (λ k. leb (hi k) (suc n) && p k) (λ k. leb (hi k) n && p k) l) ∙
     sum_ext (λ k. (leb (hi k) (suc n) && p k) ⊕ (leb (hi k) n && p k)) (λ k. eqb (hi k) (suc n) && p k) l
-    (λ k. sym (⊕-and (leb (hi k) (suc n)) (leb (hi k) n) (p k)) ∙ ap (◌&& p k) (leb_turn (hi k) n))
+    (λ k. sym (⊕_and (leb (hi k) (suc n)) (leb (hi k) n) (p k)) ∙ ap (◌&& p k) (leb_turn (hi k) n))

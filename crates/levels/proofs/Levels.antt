@@ -16,7 +16,7 @@ use lib.ListN.{length, take, drop, length-append, length-map, length-take, take-
 use lib.Seq.{take-add, take_all}
 use borrow.Author.Tests.{ltb-true, ltb-false, le-leb, lt-leb}
 use Rattle.meaning.specs.Counting.{All, keep}
-use Rattle.meaning.proofs.Parity.{◌⊕◌, odd_count, ⊕-false, sum, sum_append, sum_all, sum_ext, sum_map, sum_keep}
+use Rattle.meaning.proofs.Parity.{◌⊕◌, odd_count, ⊕_false, sum, sum_append, sum_all, sum_ext, sum_map, sum_keep}
 use Rattle.meaning.proofs.Integers.{leb_by}
 use Rattle.meaning.proofs.Space.{all_map, all_append}
 use Rattle.rising.specs.Merged.{From, merged, less_base, plus_base}
@@ -177,7 +177,7 @@ module _ {Q : Type 0} {G : Q → ℕ → Bool} {Ok : ℕ → Type 0} {s : ℕ} {
         (sum_none (over s G p) (plane_of l i e)
         (all_map (plane_of l i e) (λ k u. ap (◌&& G p.1 (k % s)) (lt-leb (k / s) p.0
         (omega (arith, L.stride.plane base k begins u.0 u.1)))) n.in_it)) ∙
-        ⊕-false (sum (over s G p) (take i l))
+        ⊕_false (sum (over s G p) (take i l))
 
     pub read_after : (p : ℕ × Q) → base / s ≤ p.0 → sum (over s G p) (take e l) ≡ sum (G p.1) (merged sec (less_base base (plane_of l i e)))
     read_after p h =
@@ -201,7 +201,7 @@ module _ {Q : Type 0} {G : Q → ℕ → Bool} {Ok : ℕ → Type 0} {s : ℕ} {
         (all_map (drop e l)
         (λ k u. let w = L.stride.beyond base k begins u in ap (◌&& G q (k % s)) (lt-leb (k / s) (min x (base / s)) (omega arith)))
         n.after)) ∙
-        ⊕-false (sum (over s G (min x (base / s), q)) (take e l)))
+        ⊕_false (sum (over s G (min x (base / s), q)) (take e l)))
 
   -- ---- one turn
 
@@ -302,7 +302,7 @@ module _ {Q : Type 0} {G : Q → ℕ → Bool} {Ok : ℕ → Type 0} {s : ℕ} {
               let h = ltb-true p.0 (base / s) t in
               sum_append (over s G p) o (plus_base base change) ∙
               ap (sum (over s G p) o ⊕◌) (early h) ∙
-              ⊕-false (sum (over s G p) o) ∙
+              ⊕_false (sum (over s G p) o) ∙
               w.means p ∙
               ap₂ op (sym (before_a p h)) (sym (before_b p h))
           go false t =

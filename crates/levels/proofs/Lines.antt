@@ -21,7 +21,7 @@ use lib.ListN.{length, take, drop, get_or, length-append, length-map, take-appen
 use lib.Seq.{take-add, take_all, drop-cons}
 use borrow.Author.Tests.{ltb-true, ltb-false, leb-true, leb-false, le-leb, lt-leb}
 use Rattle.meaning.specs.Counting.{All}
-use Rattle.meaning.proofs.Parity.{◌⊕◌, ⊕-false, ⊕-comm, ⊕-cancel, sum, sum_append, sum_all, sum_ext, sum_map}
+use Rattle.meaning.proofs.Parity.{◌⊕◌, ⊕_false, ⊕_comm, ⊕_cancel, sum, sum_append, sum_all, sum_ext, sum_map}
 use Rattle.meaning.proofs.Integers.{leb_by}
 use Rattle.meaning.proofs.Space.{all_map, all_append}
 use Rattle.rising.specs.Merged.{From, less_base, plus_base}
@@ -53,7 +53,7 @@ none_beyond m top n (e ∷ l) h u same = go (leb e top) refl (λ s. none_beyond 
         let w = leb-true e top q in (
           w,
           rec (λ x x' a b c d.
-              ⊕-cancel true (sum (λ k. leb k x) l) (sum (λ k. leb k x') l)
+              ⊕_cancel true (sum (λ k. leb k x) l) (sum (λ k. leb k x') l)
               (sym (ap (◌⊕ sum (λ k. leb k x) l) (le-leb e x (omega arith))) ∙ same x x' a b c d ∙ ap (◌⊕ sum (λ k. leb k x') l) (le-leb e x' (omega arith)))),
         )
     go false q rec =
@@ -150,7 +150,7 @@ module _ {off low words : ℕ} {l : List ℕ} {edge i : ℕ} {row : List ℕ} (r
       ap (seen off l i y z ⊕◌)
       (sum_none (λ k. fits y z (k - off)) (drop i l)
       (all_map (drop i l) (λ k u. ap (◌&& leb ((k - off) % 2048) z) (lt-leb ((k - off) / 2048) y (omega arith))) r.rest)) ∙
-      ⊕-false (seen off l i y z)
+      ⊕_false (seen off l i y z)
 
   -- what is left, and so its first key, lies at or beyond the edge
   pub at_head : (least : ℕ) → HeadOf off l i least → edge ≤ 4294967295 → edge ≤ least
@@ -244,7 +244,7 @@ module _ {off low words base : ℕ} {l : List ℕ} {edge i : ℕ} {row : List �
           bits = λ x h.
               t.bits x (subst (λ (n : ℕ). x < 64 * n) (sym r.long) h) ∙
               ap₂ ◌⊕◌ (sum_all (λ k. leb (k - start) x) (λ k. leb ((k - off) % 2048) (low + x)) (plane_of l i e) (turned x)) (r.bits x h) ∙
-              ⊕-comm (sum (λ k. leb ((k - off) % 2048) (low + x)) (plane_of l i e)) (sum (λ k. leb ((k - off) % 2048) (low + x)) (take i l)) ∙
+              ⊕_comm (sum (λ k. leb ((k - off) % 2048) (low + x)) (plane_of l i e)) (sum (λ k. leb ((k - off) % 2048) (low + x)) (take i l)) ∙
               sym (sum_append (λ k. leb ((k - off) % 2048) (low + x)) (take i l) (plane_of l i e)) ∙
               ap (sum (λ k. leb ((k - off) % 2048) (low + x))) (sym joined);
         }
@@ -257,7 +257,7 @@ module _ {off low words base : ℕ} {l : List ℕ} {edge i : ℕ} {row : List �
         ap (seen off l i y z ⊕◌)
         (sum_none (λ k. fits y z (k - off)) (plane_of l i e)
         (all_map (plane_of l i e) (λ k u. ap (◌&& leb ((k - off) % 2048) z) (lt-leb ((k - off) / 2048) y (omega (arith, u.0.0)))) line)) ∙
-        ⊕-false (seen off l i y z)
+        ⊕_false (seen off l i y z)
 
     -- where no key is read, the first key that is left lies beyond the line
     pub not_on : (least : ℕ) → HeadOf off l i least → base ≤ 2098176 → e ≤ i → base + 2048 ≤ least
@@ -641,7 +641,7 @@ module _ {op low words plane : ℕ} {sa sb pa pb out₀ : List ℕ} {n : ℕ} {r
             turns : (a b : Bool) → (a ⊕ (b ⊕ a)) ≡ b
             turns true true = refl
             turns true false = refl
-            turns false b = ⊕-false b
+            turns false b = ⊕_false b
 
         means_line : (y z : ℕ) → sum (fits y z) (w.keys ++ line_keys_lem) ≡ new y z
         means_line y z = by (ltb y (line_of m / 2048)) refl (ltb z low) refl
@@ -649,7 +649,7 @@ module _ {op low words plane : ℕ} {sa sb pa pb out₀ : List ℕ} {n : ℕ} {r
             by : (s : Bool) → ltb y (line_of m / 2048) ≡ s → (t : Bool) → ltb z low ≡ t → sum (fits y z) (w.keys ++ line_keys_lem) ≡ new y z
             by true s t o =
                 let u = ltb-true y (line_of m / 2048) s in
-                sum_append (fits y z) w.keys line_keys_lem ∙ ap₂ ◌⊕◌ (w.means y z) (line_early y z u) ∙ ⊕-false (old y z) ∙ sym (early y z u)
+                sum_append (fits y z) w.keys line_keys_lem ∙ ap₂ ◌⊕◌ (w.means y z) (line_early y z u) ∙ ⊕_false (old y z) ∙ sym (early y z u)
             by false s true o = means_hidden y z (ltb-false y (line_of m / 2048) s) (ltb-true z low o)
             by false s false o = means_shown y z (ltb-false y (line_of m / 2048) s) (ltb-false z low o)
 

@@ -18,7 +18,7 @@ use lib.ListN.{length, take, drop, get_or, replicate, length-map, length-take}
 use lib.Seq.{take-suc, take_all, length-take-le}
 use borrow.Author.Tests.{le-leb}
 use Rattle.meaning.specs.Counting.{All}
-use Rattle.meaning.proofs.Parity.{◌⊕◌, ⊕-self, ⊕-assoc, ⊕-comm, sum, sum_all}
+use Rattle.meaning.proofs.Parity.{◌⊕◌, ⊕_self, ⊕_assoc, ⊕_comm, sum, sum_all}
 use Rattle.meaning.proofs.Space.{all_map, all_append}
 use Rattle.rising.specs.Merged.{From, merged, less_base, plus_base}
 use Rattle.rising.proofs.Sums.{sum_merged, from_merged, all_merged, same_list}
@@ -141,7 +141,7 @@ spanned low high h (x ∷ l) u v = ((u.0, omega (arith, v.0)), spanned low high 
 
 -- what was, with its change, is what is
 changed_to : (x y : Bool) → (x ⊕ (y ⊕ x)) ≡ y
-changed_to x y = ap (x ⊕◌) (⊕-comm y x) ∙ sym (⊕-assoc x x y) ∙ ap (◌⊕ y) (⊕-self x)
+changed_to x y = ap (x ⊕◌) (⊕_comm y x) ∙ sym (⊕_assoc x x y) ∙ ap (◌⊕ y) (⊕_self x)
 
 -- the change between a list and its merge with another is the other
 merged_change : (l m : List ℕ) → From 0 l → From 0 m → merged l (merged l m) ≡ m

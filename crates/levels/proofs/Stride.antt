@@ -13,7 +13,7 @@ use lib.Arith.{digits_div, digits_mod}
 use lib.Dec.{leb, eqb}
 use borrow.Author.Tests.{leb-true, leb-false, eqb-true, eqb-false, le-leb, eq-eqb, ne_eqb}
 use Rattle.meaning.specs.Counting.{All, keep}
-use Rattle.meaning.proofs.Parity.{◌⊕◌, sum, sum_ext, sum_map, sum_keep, sum_⊕, ⊕-and}
+use Rattle.meaning.proofs.Parity.{◌⊕◌, sum, sum_ext, sum_map, sum_keep, sum_⊕, ⊕_and}
 use Rattle.levels.specs.Level.{over, OkOver, point_fits, number_fits, line_fits, PointOk, NumberOk, LineOk}
 
 pub record Stride (s : ℕ) : Type 0 where
@@ -111,7 +111,7 @@ module _ {Q : Type 0} (G : Q → ℕ → Bool) (s : ℕ) (S : Stride s) (sep : A
       (λ k.
       ap (λ y. eqb (k / s) y && G q (k % s)) e ∙
       ap (◌&& G q (k % s)) (step (k / s) m) ∙
-      ⊕-and (leb (k / s) m) (leb (k / s) (suc m)) (G q (k % s)) ∙
+      ⊕_and (leb (k / s) m) (leb (k / s) (suc m)) (G q (k % s)) ∙
       ap (λ y. over s G (m, q) k ⊕ (leb (k / s) y && G q (k % s))) (sym e)) ∙
       sum_⊕ (over s G (m, q)) (over s G (x, q)) l
 

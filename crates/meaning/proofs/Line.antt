@@ -13,7 +13,7 @@ use Rattle.meaning.specs.Numbers.{lowest, is_code, is_number, number, steps}
 use Rattle.meaning.specs.Counting.{All, upto}
 use Rattle.meaning.specs.Lists.{same}
 use Rattle.meaning.specs.OneList.{corner_numbers}
-use Rattle.meaning.proofs.Parity.{◌⊕◌, ⊕-false, ⊕-self, ⊕-assoc, ⊕-swap, sum, sum_append, sum_ext, sum_false, sum_map}
+use Rattle.meaning.proofs.Parity.{◌⊕◌, ⊕_false, ⊕_self, ⊕_assoc, ⊕_swap, sum, sum_append, sum_ext, sum_false, sum_map}
 use Rattle.meaning.proofs.Integers.{same_refl, same_sound, lt_z_trans, lt_z_le_z, lt_z_le, lt_z_total, line_step, number_le, number_lt, number_same, number_steps, number_pred, number_is_code, number_is_number, under_lowest, not_yes, and_left}
 use Rattle.meaning.proofs.Space.{Order, Up, Space, all_append}
 
@@ -32,19 +32,19 @@ line_order =
 -- ---- sums over 0 .. n
 
 sum_upto : (f : ℕ → Bool) (n : ℕ) → sum f (upto (suc n)) ≡ (sum f (upto n) ⊕ f (suc n))
-sum_upto f n = sum_append f (upto n) (suc n ∷ []) ∙ ap (sum f (upto n) ⊕◌) (⊕-false (f (suc n)))
+sum_upto f n = sum_append f (upto n) (suc n ∷ []) ∙ ap (sum f (upto n) ⊕◌) (⊕_false (f (suc n)))
 
 abbrev change : (ℕ → Bool) → ℕ → Bool
 change g zero = g zero
 change g (suc n) = g n ⊕ g (suc n)
 
 undo : (a b : Bool) → (a ⊕ (a ⊕ b)) ≡ b
-undo a b = sym (⊕-assoc a a b) ∙ ap (◌⊕ b) (⊕-self a)
+undo a b = sym (⊕_assoc a a b) ∙ ap (◌⊕ b) (⊕_self a)
 
 -- the changes of a test up to a add up to the test at a
 cut : (g : ℕ → Bool) (a n : ℕ) → sum (λ k. change g k && leb k a) (upto n) ≡ g (min a n)
 cut g a zero =
-    ⊕-false (g zero && leb zero a) ∙
+    ⊕_false (g zero && leb zero a) ∙
     ap (g zero &&◌) (le-leb zero a (omega arith)) ∙
     and-true (g zero) ∙
     ap g (omega arith)
@@ -59,10 +59,10 @@ cut g a (suc n) = sum_upto (λ k. change g k && leb k a) n ∙ ap (◌⊕ (chang
     go false e =
         let h : a < suc n = leb-false (suc n) a e in
         let p : min a n ≡ min a (suc n) = omega arith in
-        ap (g (min a n) ⊕◌) (and-false (g n ⊕ g (suc n))) ∙ ⊕-false (g (min a n)) ∙ ap g p
+        ap (g (min a n) ⊕◌) (and-false (g n ⊕ g (suc n))) ∙ ⊕_false (g (min a n)) ∙ ap g p
 
 pub once : (a n : ℕ) → sum (λ k. same (number a) (number k)) (upto n) ≡ leb a n
-once a zero = ⊕-false (same (number a) (number zero)) ∙ number_same a zero ∙ ap (leb a zero &&◌) (le-leb zero a (omega arith)) ∙ and-true (leb a zero)
+once a zero = ⊕_false (same (number a) (number zero)) ∙ number_same a zero ∙ ap (leb a zero &&◌) (le-leb zero a (omega arith)) ∙ and-true (leb a zero)
 once a (suc n) = sum_upto (λ k. same (number a) (number k)) n ∙ ap₂ ◌⊕◌ (once a n) (number_same a (suc n)) ∙ go (leb a n) refl
   where
     go : (t : Bool) → leb a n ≡ t → (t ⊕ (leb a (suc n) && leb (suc n) a)) ≡ leb a (suc n)
@@ -158,7 +158,7 @@ module _ (ns : List ℤ) (n : ℕ) (are : ns ≡ map number (upto n)) (most : n 
         grid = ns;
         inside = is_code;
         proper = is_number;
-        diff_⊕ = λ f g v. ⊕-swap (f (pred_ℤ v)) (g (pred_ℤ v)) (f v) (g v);
+        diff_⊕ = λ f g v. ⊕_swap (f (pred_ℤ v)) (g (pred_ℤ v)) (f v) (g v);
         diff_false = λ v. refl;
         diff_fits = line_step;
         recover = λ S h c. ap (sum (λ z. line_diff S z && le_z z c)) are ∙ recover_line S h n most c;

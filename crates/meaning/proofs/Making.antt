@@ -18,7 +18,7 @@ use Rattle.meaning.specs.Counting.{keep, All}
 use Rattle.meaning.specs.Lists.{at_or_below, permitted}
 use Rattle.meaning.specs.OneList.{one_pairs, each, WithinCodes, SquaresWithin}
 use Rattle.meaning.specs.Operations.{Operation, union, overlap, without, exclusive, holds, join, section_at, lower_half, upper_half}
-use Rattle.meaning.proofs.Parity.{◌⊕◌, ⊕-false, ⊕-self, sum, sum_append, sum_ext, sum_map, sum_each, sum_keep, sum_and}
+use Rattle.meaning.proofs.Parity.{◌⊕◌, ⊕_false, ⊕_self, sum, sum_append, sum_ext, sum_map, sum_each, sum_keep, sum_and}
 use Rattle.meaning.proofs.Integers.{le_z_trans, le_z_total, lt_z_not, and_left, and_right, and_both}
 use Rattle.meaning.proofs.Space as Space
 use Rattle.meaning.proofs.Space.{Up, occ, permits, sum_grid}
@@ -199,8 +199,8 @@ pub lower_rest : (axis : Axis) (p : ℤ) (S : Cell → Bool) (c : Cell) → lowe
 lower_rest axis p S c = ap (◌&& S c) (lt_z_not (code_on axis c) p) ∙ go (le_z p (code_on axis c)) (S c)
   where
     go : (t s : Bool) → (not t && s) ≡ (s ⊕ (t && s))
-    go true s = sym (⊕-self s)
-    go false s = sym (⊕-false s)
+    go true s = sym (⊕_self s)
+    go false s = sym (⊕_false s)
 
 pub lower_within : (axis : Axis) (p : ℤ) (S : Cell → Bool) → WithinCodes S → WithinCodes (lower_half axis p S)
 lower_within axis p S h c e = h c (and_right (lt_z (code_on axis c) p) _ e)

@@ -119,11 +119,11 @@ passed axis l j k s e f =
     same_rest a b true e = sym (ap₂ ◌⊕◌ (and-true a) (and-true b)) ∙ e
     same_rest a b false e = absurd (true≢false (sym e ∙ ap₂ ◌⊕◌ (and-false a) (and-false b)))
 
-⊕-comm : (a b : Bool) → (a ⊕ b) ≡ (b ⊕ a)
-⊕-comm true true = refl
-⊕-comm true false = refl
-⊕-comm false true = refl
-⊕-comm false false = refl
+⊕_comm : (a b : Bool) → (a ⊕ b) ≡ (b ⊕ a)
+⊕_comm true true = refl
+⊕_comm true false = refl
+⊕_comm false true = refl
+⊕_comm false false = refl
 
 -- ---- the law
 
@@ -145,7 +145,7 @@ module _ (l : List Corner) (w c : Cell) (n : Nearest (permitted l) w c) (axis : 
       by true e t f =
           let k = code_on axis c in
           let (v, m, d) = passed axis l k (pred_ℤ k) (square_of axis c) here (not_nearer (pred_ℤ k) (gap_down (code_on axis w) k e)) in
-          let at = same_sound k (number_on axis v) (sym (line_step (number_on axis v) k) ∙ ⊕-comm (le_z (number_on axis v) (pred_ℤ k)) (le_z (number_on axis v) k) ∙ d) in
+          let at = same_sound k (number_on axis v) (sym (line_step (number_on axis v) k) ∙ ⊕_comm (le_z (number_on axis v) (pred_ℤ k)) (le_z (number_on axis v) k) ∙ d) in
           inr (inl (v, m, sym at))
       by false e true f =
           let k = code_on axis c in

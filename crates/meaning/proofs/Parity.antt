@@ -8,45 +8,45 @@ use Rattle.meaning.specs.Counting.{count, keep, All, odd}
 pub use Rattle.meaning.specs.Counting.{◌⊕◌, sum}
 use Rattle.meaning.specs.OneList.{each}
 
-pub ⊕-false : (a : Bool) → (a ⊕ false) ≡ a
-⊕-false true = refl
-⊕-false false = refl
+pub ⊕_false : (a : Bool) → (a ⊕ false) ≡ a
+⊕_false true = refl
+⊕_false false = refl
 
-pub ⊕-self : (a : Bool) → (a ⊕ a) ≡ false
-⊕-self true = refl
-⊕-self false = refl
+pub ⊕_self : (a : Bool) → (a ⊕ a) ≡ false
+⊕_self true = refl
+⊕_self false = refl
 
-pub ⊕-assoc : (a b c : Bool) → ((a ⊕ b) ⊕ c) ≡ (a ⊕ (b ⊕ c))
-⊕-assoc true true c = sym (not-not c)
-⊕-assoc true false c = refl
-⊕-assoc false b c = refl
+pub ⊕_assoc : (a b c : Bool) → ((a ⊕ b) ⊕ c) ≡ (a ⊕ (b ⊕ c))
+⊕_assoc true true c = sym (not-not c)
+⊕_assoc true false c = refl
+⊕_assoc false b c = refl
 
-pub ⊕-comm : (a b : Bool) → (a ⊕ b) ≡ (b ⊕ a)
-⊕-comm true true = refl
-⊕-comm true false = refl
-⊕-comm false true = refl
-⊕-comm false false = refl
+pub ⊕_comm : (a b : Bool) → (a ⊕ b) ≡ (b ⊕ a)
+⊕_comm true true = refl
+⊕_comm true false = refl
+⊕_comm false true = refl
+⊕_comm false false = refl
 
-pub ⊕-left : (a b c : Bool) → (a ⊕ (b ⊕ c)) ≡ (b ⊕ (a ⊕ c))
-⊕-left a b c = sym (⊕-assoc a b c) ∙ ap (◌⊕ c) (⊕-comm a b) ∙ ⊕-assoc b a c
+pub ⊕_left : (a b c : Bool) → (a ⊕ (b ⊕ c)) ≡ (b ⊕ (a ⊕ c))
+⊕_left a b c = sym (⊕_assoc a b c) ∙ ap (◌⊕ c) (⊕_comm a b) ∙ ⊕_assoc b a c
 
-pub ⊕-swap : (a b c d : Bool) → ((a ⊕ b) ⊕ (c ⊕ d)) ≡ ((a ⊕ c) ⊕ (b ⊕ d))
-⊕-swap a b c d = ⊕-assoc a b (c ⊕ d) ∙ ap (a ⊕◌) (sym (⊕-assoc b c d) ∙ ap (◌⊕ d) (⊕-comm b c) ∙ ⊕-assoc c b d) ∙ sym (⊕-assoc a c (b ⊕ d))
+pub ⊕_swap : (a b c d : Bool) → ((a ⊕ b) ⊕ (c ⊕ d)) ≡ ((a ⊕ c) ⊕ (b ⊕ d))
+⊕_swap a b c d = ⊕_assoc a b (c ⊕ d) ∙ ap (a ⊕◌) (sym (⊕_assoc b c d) ∙ ap (◌⊕ d) (⊕_comm b c) ∙ ⊕_assoc c b d) ∙ sym (⊕_assoc a c (b ⊕ d))
 
-pub ⊕-cancel : (a b c : Bool) → (a ⊕ b) ≡ (a ⊕ c) → b ≡ c
-⊕-cancel true b c e = sym (not-not b) ∙ ap not e ∙ not-not c
-⊕-cancel false b c e = e
+pub ⊕_cancel : (a b c : Bool) → (a ⊕ b) ≡ (a ⊕ c) → b ≡ c
+⊕_cancel true b c e = sym (not-not b) ∙ ap not e ∙ not-not c
+⊕_cancel false b c e = e
 
 pub and_⊕ : (a b c : Bool) → (a && (b ⊕ c)) ≡ ((a && b) ⊕ (a && c))
 and_⊕ true b c = refl
 and_⊕ false b c = refl
 
-pub ⊕-and : (a b c : Bool) → ((a ⊕ b) && c) ≡ ((a && c) ⊕ (b && c))
-⊕-and true true true = refl
-⊕-and true true false = refl
-⊕-and true false true = refl
-⊕-and true false false = refl
-⊕-and false b c = refl
+pub ⊕_and : (a b c : Bool) → ((a ⊕ b) && c) ≡ ((a && c) ⊕ (b && c))
+⊕_and true true true = refl
+⊕_and true true false = refl
+⊕_and true false true = refl
+⊕_and true false false = refl
+⊕_and false b c = refl
 
 module _ {A : Type 0} where
   -- an odd number of a list pass a test exactly when the exclusive or of the test over the list is true
@@ -60,11 +60,11 @@ module _ {A : Type 0} where
 
   pub sum_append : (f : A → Bool) (l m : List A) → sum f (l ++ m) ≡ (sum f l ⊕ sum f m)
   sum_append f [] m = refl
-  sum_append f (x ∷ l) m = ap (f x ⊕◌) (sum_append f l m) ∙ sym (⊕-assoc (f x) (sum f l) (sum f m))
+  sum_append f (x ∷ l) m = ap (f x ⊕◌) (sum_append f l m) ∙ sym (⊕_assoc (f x) (sum f l) (sum f m))
 
   pub sum_⊕ : (f g : A → Bool) (l : List A) → sum (λ x. f x ⊕ g x) l ≡ (sum f l ⊕ sum g l)
   sum_⊕ f g [] = refl
-  sum_⊕ f g (x ∷ l) = ap ((f x ⊕ g x) ⊕◌) (sum_⊕ f g l) ∙ ⊕-swap (f x) (g x) (sum f l) (sum g l)
+  sum_⊕ f g (x ∷ l) = ap ((f x ⊕ g x) ⊕◌) (sum_⊕ f g l) ∙ ⊕_swap (f x) (g x) (sum f l) (sum g l)
 
   pub sum_false : (l : List A) → sum (λ x. false) l ≡ false
   sum_false [] = refl

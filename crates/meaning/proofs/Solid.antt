@@ -14,7 +14,7 @@ use Rattle.meaning.specs.Numbers.{Axis, focus, first, second, Cell, Corner, Squa
 use Rattle.meaning.specs.Counting.{keep}
 use Rattle.meaning.specs.Lists.{at_or_below, permitted, surrounding, listed, below, Rising, same}
 use Rattle.meaning.specs.OneList.{one_list, one_pairs, listed_pair, around}
-use Rattle.meaning.proofs.Parity.{⊕-false, ⊕-assoc, sum, odd_count}
+use Rattle.meaning.proofs.Parity.{⊕_false, ⊕_assoc, sum, odd_count}
 use Rattle.meaning.proofs.Integers.{lt_z_not}
 use Rattle.meaning.proofs.Space.{Space, Up, one_of, all_map}
 use Rattle.meaning.proofs.Line.{line}
@@ -114,10 +114,10 @@ along second c v = turn (le_z v.focus c.focus) (le_z v.first c.first) (le_z v.se
 
 pub listed_diff : (S : Cell → Bool) (v : Corner) → listed S v ≡ solid.diff S v
 unfolding solid
-listed_diff S v = odd_count S (surrounding v) ∙ simp (⊕-assoc, ⊕-false)
+listed_diff S v = odd_count S (surrounding v) ∙ simp (⊕_assoc, ⊕_false)
 
 pub listed_pair_diff : (S : Square → Bool) (p : Pair) → listed_pair S p ≡ plane.diff S p
-listed_pair_diff S p = odd_count S (around p) ∙ simp (⊕-assoc, ⊕-false)
+listed_pair_diff S p = odd_count S (around p) ∙ simp (⊕_assoc, ⊕_false)
 
 -- a number less, or at most and then something, is less, or the same and then something
 earlier_same : (a x : ℤ) (r : Bool) → (lt_z a x || le_z a x && r) ≡ (lt_z a x || same a x && r)

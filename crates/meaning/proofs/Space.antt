@@ -13,7 +13,7 @@ use mathlib.Core.Logic.{◌↔◌}
 use mathlib.Core.Bool.{Bool, true, false, ◌&&◌, cond, true≢false, false≢true, and_comm}
 use mathlib.Core.List.{List, [], ◌∷◌, ◌++◌, Memᴰ}
 use Rattle.meaning.specs.Counting.{keep, All}
-use Rattle.meaning.proofs.Parity.{◌⊕◌, ⊕-cancel, sum, sum_all, sum_ext, sum_false, sum_keep, sum_swap, ⊕-and}
+use Rattle.meaning.proofs.Parity.{◌⊕◌, ⊕_cancel, sum, sum_all, sum_ext, sum_false, sum_keep, sum_swap, ⊕_and}
 use Rattle.meaning.proofs.Integers.{not_yes}
 
 pub record Order (Pt : Type 0) : Type 0 where
@@ -81,7 +81,7 @@ module _ {Pt : Type 0} (O : Order Pt) where
   unique_occ (v ∷ l) (w ∷ m) h k e = go (O.lt v w) (O.lt w v) refl refl (λ q. unique_occ l m h.1 k.1 q)
     where
       tails : v ≡ w → (u : Pt) → occ u l ≡ occ u m
-      tails p u = ⊕-cancel (O.eq u v) (occ u l) (occ u m) (e u ∙ ap (λ x. O.eq u x ⊕ occ u m) (sym p))
+      tails p u = ⊕_cancel (O.eq u v) (occ u l) (occ u m) (e u ∙ ap (λ x. O.eq u x ⊕ occ u m) (sym p))
 
       go : (s t : Bool) → O.lt v w ≡ s → O.lt w v ≡ t → (((u : Pt) → occ u l ≡ occ u m) → l ≡ m) → v ∷ l ≡ w ∷ m
       go true t a b r = absurd (clash v w l m h.0 k.0 a (e v))
@@ -189,7 +189,7 @@ module _ {Pt C : Type 0} (X : Space Pt C) where
     where
       pulled : (v : Pt) (m : List Pt) → sum (λ w. X.order.eq v w && f v) m ≡ (occ X.order v m && f v)
       pulled v [] = refl
-      pulled v (w ∷ m) = ap ((X.order.eq v w && f v) ⊕◌) (pulled v m) ∙ sym (⊕-and (X.order.eq v w) (occ X.order v m) (f v))
+      pulled v (w ∷ m) = ap ((X.order.eq v w && f v) ⊕◌) (pulled v m) ∙ sym (⊕_and (X.order.eq v w) (occ X.order v m) (f v))
 
       meet : (w v : Pt) → (X.order.eq v w && f v) ≡ (X.order.eq w v && f w)
       meet w v = go (X.order.eq v w) (X.order.eq w v) refl refl

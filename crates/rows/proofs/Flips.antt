@@ -15,7 +15,7 @@ use lib.Seq.{get_or-set_same, get_or-set_other, take-suc, get_or-drop}
 use lib.Bits.{bit_xor}
 use borrow.Author.Tests.{ltb-true, ltb-false, le-leb, lt-leb}
 use Rattle.meaning.specs.Counting.{All}
-use Rattle.meaning.proofs.Parity.{◌⊕◌, ⊕-comm, ⊕-assoc, sum, sum_append, ⊕-false}
+use Rattle.meaning.proofs.Parity.{◌⊕◌, ⊕_comm, ⊕_assoc, sum, sum_append, ⊕_false}
 use Rattle.meaning.proofs.Integers.{leb_by}
 use Rattle.rising.specs.Merged.{From}
 use Rattle.turn.specs.Turn.{plane_of}
@@ -101,7 +101,7 @@ flipped at row now w h t end = record { long = t.long ∙ length-set row first _
         ap (λ n. bit n (x % 64)) (t.turned (x / 64) q in_it ∙ ap (λ n. bit_xor n 18446744073709551615) (other (x / 64) (λ s. omega arith))) ∙
         bit_xor_lem (get_or row (x / 64) 0) 18446744073709551615 (x % 64) ∙
         ap (bit_at row x ⊕◌) (bit_all (x % 64) (omega arith)) ∙
-        ⊕-comm (bit_at row x) true ∙
+        ⊕_comm (bit_at row x) true ∙
         ap (◌⊕ bit_at row x) (sym (le-leb at x (omega arith)))
     go x u false e false f =
         let here : x / 64 ≡ first = omega (arith, ltb-false (x / 64) first e, ltb-false first (x / 64) f) in
@@ -109,7 +109,7 @@ flipped at row now w h t end = record { long = t.long ∙ length-set row first _
         (t.same (x / 64) (omega arith) ∙ ap (λ (i : ℕ). get_or before i 0) here ∙ get_or-set_same row first _ 0 (omega arith)) ∙
         bit_xor_lem (get_or row first 0) mask (x % 64) ∙
         ap₂ ◌⊕◌ (ap (λ (i : ℕ). bit (get_or row i 0) (x % 64)) (sym here)) (bit_mask (at % 64) (x % 64) (omega arith) (omega arith)) ∙
-        ⊕-comm (bit_at row x) (leb (at % 64) (x % 64)) ∙
+        ⊕_comm (bit_at row x) (leb (at % 64) (x % 64)) ∙
         ap (◌⊕ bit_at row x) (leb_by (at % 64) (x % 64) at x (λ q. omega arith) (λ q. omega arith))
 
 -- ---- a row that takes in keys
@@ -153,10 +153,10 @@ took_one {keys} {i} {start} {limit} {before} {now} {e} now' t h u f =
       bits = λ x v.
           f.bits x (omega (arith, t.long)) ∙
           ap (leb (get_or keys e 0 - start) x ⊕◌) (t.bits x v) ∙
-          sym (⊕-assoc (leb (get_or keys e 0 - start) x) (sum (λ k. leb (k - start) x) (plane_of keys i e)) (bit_at before x)) ∙
+          sym (⊕_assoc (leb (get_or keys e 0 - start) x) (sum (λ k. leb (k - start) x) (plane_of keys i e)) (bit_at before x)) ∙
           ap (◌⊕ bit_at before x)
-          (⊕-comm (leb (get_or keys e 0 - start) x) (sum (λ k. leb (k - start) x) (plane_of keys i e)) ∙
-          ap (sum (λ k. leb (k - start) x) (plane_of keys i e) ⊕◌) (sym (⊕-false (leb (get_or keys e 0 - start) x))) ∙
+          (⊕_comm (leb (get_or keys e 0 - start) x) (sum (λ k. leb (k - start) x) (plane_of keys i e)) ∙
+          ap (sum (λ k. leb (k - start) x) (plane_of keys i e) ⊕◌) (sym (⊕_false (leb (get_or keys e 0 - start) x))) ∙
           sym (sum_append (λ k. leb (k - start) x) (plane_of keys i e) (get_or keys e 0 ∷ [])) ∙
           ap (sum (λ k. leb (k - start) x)) (sym (plane_more keys i e t.running.from h)));
     }

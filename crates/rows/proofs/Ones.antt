@@ -19,7 +19,7 @@ use lib.Pow.{pow_pos}
 use lib.Seq.{take-suc-set, get_or-set_same, get_or-set_other}
 use borrow.Author.Tests.{ltb-true, ltb-false, leb-true, leb-false, le-leb, lt-leb, ne_eqb, eqb-true, eqb-false}
 use Rattle.meaning.specs.Counting.{All}
-use Rattle.meaning.proofs.Parity.{◌⊕◌, ⊕-false, ⊕-self, ⊕-assoc, ⊕-comm, ⊕-left, ⊕-swap, sum, sum_append, sum_all, sum_ext, sum_false, sum_map}
+use Rattle.meaning.proofs.Parity.{◌⊕◌, ⊕_false, ⊕_self, ⊕_assoc, ⊕_comm, ⊕_left, ⊕_swap, sum, sum_append, sum_all, sum_ext, sum_false, sum_map}
 use Rattle.meaning.proofs.Space.{all_map, all_append}
 use Rattle.rising.specs.Merged.{From, plus_base}
 use Rattle.turn.proofs.Lists.{from_append, from_plus, plus_append, plus_plus, rising_short}
@@ -78,7 +78,7 @@ up_to_zero (suc x) = ap₂ ◌⊕◌ (bit_zero (suc x)) (up_to_zero x)
 
 pub up_to_xor : (a b x : ℕ) → up_to (bit_xor a b) x ≡ (up_to a x ⊕ up_to b x)
 up_to_xor a b zero = bit_xor_lem a b 0
-up_to_xor a b (suc x) = ap₂ ◌⊕◌ (bit_xor_lem a b (suc x)) (up_to_xor a b x) ∙ ⊕-swap (bit a (suc x)) (bit b (suc x)) (up_to a x) (up_to b x)
+up_to_xor a b (suc x) = ap₂ ◌⊕◌ (bit_xor_lem a b (suc x)) (up_to_xor a b x) ∙ ⊕_swap (bit a (suc x)) (bit b (suc x)) (up_to a x) (up_to b x)
 
 one_more : (z x : ℕ) → (eqb z (suc x) ⊕ leb z x) ≡ leb z (suc x)
 one_more z x = go (leb z x) refl (eqb z (suc x)) refl
@@ -162,7 +162,7 @@ module _ (left : ℕ) (more : left ≡ 0 → ⊥) (word : left < 2 ^ 64) where
     where
       go : (t : Bool) → eqb (lowest left) k ≡ t → (bit left k ⊕ t) ≡ false
       go true e = ap (λ j. bit left j ⊕ true) (sym (eqb-true (lowest left) k e)) ∙ ap (◌⊕ true) (trailing_one 64 left lowest_lt)
-      go false e = ⊕-false (bit left k) ∙ trailing_zeros 64 left k (below (eqb-false (lowest left) k e))
+      go false e = ⊕_false (bit left k) ∙ trailing_zeros 64 left k (below (eqb-false (lowest left) k e))
         where
           below : (lowest left ≡ k → ⊥) → k < lowest left
           below u = omega arith
@@ -171,7 +171,7 @@ module _ (left : ℕ) (more : left ≡ 0 → ⊥) (word : left < 2 ^ 64) where
   without_up_to x h =
       let z = leb (lowest left) x in
       let e = up_to_xor left (one_at (lowest left)) x ∙ ap (up_to left x ⊕◌) (up_to_one (lowest left) x lowest_lt h) in
-      sym (ap (z ⊕◌) (e ∙ ⊕-comm (up_to left x) z) ∙ sym (⊕-assoc z z (up_to left x)) ∙ ap (◌⊕ up_to left x) (⊕-self z))
+      sym (ap (z ⊕◌) (e ∙ ⊕_comm (up_to left x) z) ∙ sym (⊕_assoc z z (up_to left x)) ∙ ap (◌⊕ up_to left x) (⊕_self z))
 
   -- what is left has its lowest one further up
   without_less : 64 - lowest (without left) < 64 - lowest left
@@ -219,8 +219,8 @@ module _ {ones at : ℕ} {out₀ : List ℕ} {n : ℕ} where
           clear = without_clear left more w.word;
           means = λ x h.
               w.means x h ∙ ap (sum (λ k. leb k x) w.places ⊕◌) (without_up_to left more w.word x h) ∙
-              sym (⊕-assoc (sum (λ k. leb k x) w.places) (leb z x) (up_to (without left) x)) ∙
-              ap (◌⊕ up_to (without left) x) (sym (sum_append (λ k. leb k x) w.places (z ∷ []) ∙ ap (sum (λ k. leb k x) w.places ⊕◌) (⊕-false (leb z x))));
+              sym (⊕_assoc (sum (λ k. leb k x) w.places) (leb z x) (up_to (without left) x)) ∙
+              ap (◌⊕ up_to (without left) x) (sym (sum_append (λ k. leb k x) w.places (z ∷ []) ∙ ap (sum (λ k. leb k x) w.places ⊕◌) (⊕_false (leb z x))));
           put_out = subst (λ (l : List ℕ). Put l out₀ n out' r) (sym (plus_append at w.places (z ∷ []))) (put_then w.put_out p);
         }
 
@@ -231,7 +231,7 @@ module _ {ones at : ℕ} {out₀ : List ℕ} {n : ℕ} where
           rises = w.rises;
           fits = all_map w.places (λ k h. omega (arith, w.within)) w.under;
           means = λ x h.
-              sym (w.means x h ∙ ap (sum (λ k. leb k x) w.places ⊕◌) (ap (λ m. up_to m x) e ∙ up_to_zero x) ∙ ⊕-false (sum (λ k. leb k x) w.places));
+              sym (w.means x h ∙ ap (sum (λ k. leb k x) w.places ⊕◌) (ap (λ m. up_to m x) e ∙ up_to_zero x) ∙ ⊕_false (sum (λ k. leb k x) w.places));
           put = w.put_out;
         }
 
@@ -252,7 +252,7 @@ module _ (turned carry : ℕ) (alone : (k : ℕ) → bit carry (suc k) ≡ false
   bit_edges x = bit_xor_lem (bit_xor turned ((turned * 2 ^ 1) % 2 ^ 64)) carry x ∙ ap (◌⊕ bit carry x) (bit_xor_lem turned ((turned * 2 ^ 1) % 2 ^ 64) x)
 
   pub up_to_edges : (x : ℕ) → x < 64 → up_to (edges turned carry) x ≡ (bit turned x ⊕ bit carry 0)
-  up_to_edges zero h = bit_edges 0 ∙ ap (λ b. (bit turned 0 ⊕ b) ⊕ bit carry 0) (bit_shifted_first turned) ∙ ap (◌⊕ bit carry 0) (⊕-false (bit turned 0))
+  up_to_edges zero h = bit_edges 0 ∙ ap (λ b. (bit turned 0 ⊕ b) ⊕ bit carry 0) (bit_shifted_first turned) ∙ ap (◌⊕ bit carry 0) (⊕_false (bit turned 0))
   up_to_edges (suc x) h =
       ap₂ ◌⊕◌ (bit_edges (suc x) ∙ ap₂ (λ b c. (bit turned (suc x) ⊕ b) ⊕ c) (bit_shifted turned x (omega arith)) (alone x)) (up_to_edges x (omega arith)) ∙
       telescope (bit turned (suc x)) (bit turned x) (bit carry 0)
@@ -377,13 +377,13 @@ module _ {op : ℕ} {ra rb ca cb last₀ : List ℕ} {start : ℕ} {out₀ : Lis
             sum_append (λ k. leb k x) l.places (plus_base (64 * w) p.places) ∙
             ap₂ ◌⊕◌ (sum_below (64 * w) x l.places (omega arith) l.under ∙ l.parity)
             (sum_within w x e p.places ∙ p.means (x % 64) (omega arith) ∙ up_to_edges turned carry l.alone (x % 64) (omega arith)) ∙
-            ⊕-left c b c ∙ ap (b ⊕◌) (⊕-self c) ∙ ⊕-false b
+            ⊕_left c b c ∙ ap (b ⊕◌) (⊕_self c) ∙ ⊕_false b
 
         means_more : (x : ℕ) → x < 64 * (w + 1) → sum (λ k. leb k x) more ≡ (bit_at (set last w now) x ⊕ bit_at last₀ x)
         means_more =
             by_word {A = λ x. sum (λ k. leb k x) more ≡ (bit_at (set last w now) x ⊕ bit_at last₀ x)}
             (λ x h. sum_append (λ k. leb k x) l.places (plus_base (64 * w) p.places) ∙
-            ap (sum (λ k. leb k x) l.places ⊕◌) (sum_above (64 * w) x p.places h) ∙ ⊕-false (sum (λ k. leb k x) l.places) ∙
+            ap (sum (λ k. leb k x) l.places ⊕◌) (sum_above (64 * w) x p.places h) ∙ ⊕_false (sum (λ k. leb k x) l.places) ∙
             l.means x h ∙ ap (◌⊕ bit_at last₀ x) (sym (before x h)))
             (λ x e. in_word x e ∙ bit_xor_lem now (get_or last w 0) (x % 64) ∙
             ap₂ ◌⊕◌ (sym (here x e)) (ap (λ v. bit v (x % 64)) (l.behind w (omega arith)) ∙ sym (bit_within w x e last₀)))

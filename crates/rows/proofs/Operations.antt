@@ -10,7 +10,7 @@ use Prim.Native.Nat.{ℕ}
 use lib.Dec.{eqb}
 use borrow.Author.Tests.{ne_eqb}
 use Rattle.meaning.specs.Operations.{Operation, union, overlap, without, exclusive, operation, holds}
-use Rattle.meaning.proofs.Parity.{◌⊕◌, ⊕-false, ⊕-self}
+use Rattle.meaning.proofs.Parity.{◌⊕◌, ⊕_false, ⊕_self}
 use Rattle.rows.specs.Rows.{or_exclusive, holds_by, change}
 
 xor_form : (s t : Bool) → (s ⊕ t) ≡ (s && not t || not s && t)
@@ -50,7 +50,7 @@ holds_out op = go (or_exclusive (operation op))
 
 -- where nothing turns, nothing changes
 pub change_none : (op : ℕ) (s t : Bool) → change op s t false false ≡ false
-change_none op s t = ap (◌⊕ holds_by op s t) (ap₂ (holds_by op) (⊕-false s) (⊕-false t)) ∙ ⊕-self (holds_by op s t)
+change_none op s t = ap (◌⊕ holds_by op s t) (ap₂ (holds_by op) (⊕_false s) (⊕_false t)) ∙ ⊕_self (holds_by op s t)
 
 pub change_quiet : (op : ℕ) (s t : Bool) {u v : Bool} → u ≡ false → v ≡ false → change op s t u v ≡ false
 change_quiet op s t c d = ap₂ (λ x y. change op s t x y) c d ∙ change_none op s t

@@ -16,7 +16,7 @@ use lib.Dec.{leb}
 use lib.ListN.{length, get_or, take, drop, take-append-drop}
 use lib.Seq.{take_at}
 use borrow.Author.Tests.{le-leb, lt-leb}
-use Rattle.meaning.proofs.Parity.{⊕-self, ⊕-cancel, sum, sum_append, sum_map}
+use Rattle.meaning.proofs.Parity.{⊕_self, ⊕_cancel, sum, sum_append, sum_map}
 use Rattle.rising.specs.Merged.{From, less_base, norm}
 use Rattle.rising.specs.Placed.{Front}
 use Rattle.rising.proofs.Sums.{from_less, sum_norm, norm_from}
@@ -120,8 +120,8 @@ pairs_front f ks before {now} {x} {n} {m} w e h r =
 -- of an even list both sides have the same section
 other_side : (f : ℕ → Bool) (l : List ℕ) (place : ℕ) → sum f l ≡ false → sum f (take place l) ≡ sum f (drop place l)
 other_side f l place e =
-    ⊕-cancel (sum f (take place l)) (sum f (take place l)) (sum f (drop place l))
-    (⊕-self (sum f (take place l)) ∙ sym (sym (sum_append f (take place l) (drop place l)) ∙ ap (sum f) (take-append-drop place l) ∙ e))
+    ⊕_cancel (sum f (take place l)) (sum f (take place l)) (sum f (drop place l))
+    (⊕_self (sum f (take place l)) ∙ sym (sym (sum_append f (take place l) (drop place l)) ∙ ap (sum f) (take-append-drop place l) ∙ e))
 
 module _ (scale : Scale) (D : Depth) (l : List ℕ) (place : ℕ) (edge : Edge (high plane_unit) l scale.wish place) (even : Even D l) where
   up_to : (t : D.Rest) → sum (λ k. leb (high plane_unit k) scale.wish && D.test t (rest plane_unit k)) l ≡ sum (λ k. D.test t (rest plane_unit k)) (take place l)

@@ -10,7 +10,7 @@ use native.Mathlib.Omega.{arith}
 use lib.ListN.{length, take, drop, get_or}
 use lib.Seq.{drop-cons, take_at, take-suc}
 use Rattle.meaning.specs.Counting.{All}
-use Rattle.meaning.proofs.Parity.{◌⊕◌, ⊕-self, ⊕-assoc, sum, sum_all, sum_false}
+use Rattle.meaning.proofs.Parity.{◌⊕◌, ⊕_self, ⊕_assoc, sum, sum_all, sum_false}
 use Rattle.meaning.proofs.Space.{all_append}
 use Rattle.rising.specs.Merged.{From, less_base, plus_base}
 use Rattle.rising.proofs.Sums.{from_less}
@@ -83,7 +83,7 @@ pub sum_none : (f : ℕ → Bool) (l : List ℕ) → All (λ k. f k ≡ false) l
 sum_none f l h = sum_all f (λ k. false) l h ∙ sum_false l
 
 pub undo : (a b : Bool) → (a ⊕ (a ⊕ b)) ≡ b
-undo a b = sym (⊕-assoc a a b) ∙ ap (◌⊕ b) (⊕-self a)
+undo a b = sym (⊕_assoc a a b) ∙ ap (◌⊕ b) (⊕_self a)
 
 pub plus_append : (base : ℕ) (l m : List ℕ) → plus_base base (l ++ m) ≡ plus_base base l ++ plus_base base m
 plus_append base l m = map-append (λ k. base + k) l m
