@@ -105,7 +105,7 @@ pub fn refuse(number: usize, place: usize, out: &mut [u8]) -> usize
 // The 05 line of wish i.
 #[tactic(auto, using(codes::proofs::Laws::read_back, crate::proofs::Lines::answer_at))]
 fn answer(list: &[i16], wishes: &[i16], i: usize) -> [u8; ANSWER_LINE]
-    requires list_value { verdict list.now ≡ Verdict.Valid }
+    requires valid { verdict list.now ≡ Verdict.Valid }
     requires i_in_bounds { 3 * i + 2 < length wishes.now }
     ensures { AnswerLine (vertices list.now) (wish_at wishes.now i) result }
 {
@@ -119,7 +119,7 @@ fn answer(list: &[i16], wishes: &[i16], i: usize) -> [u8; ANSWER_LINE]
 
 // Writes an 05 line for each wish, in order; answers how many bytes they have.
 pub fn answer_all(list: &[i16], wishes: &[i16], out: &mut [u8]) -> usize
-    requires list_value { verdict list.now ≡ Verdict.Valid }
+    requires valid { verdict list.now ≡ Verdict.Valid }
     requires wishes_in_bounds { answer_bytes * (length wishes.now / 3) ≤ length out.old }
     ensures value { result ≡ answer_bytes * (length wishes.now / 3) }
     ensures written { Written (vertices list.now)

@@ -35,7 +35,7 @@ fn link(keys: &[u32], heads: &mut [u16], links: &mut [u16])
     requires parted { Parted keys.now }
     requires keys_len_bound { length keys.now ≤ most_vertices }
     requires heads_len { (length heads.old ≡ 1025) × (length keys.now ≤ length links.old) }
-    requires by_index { (h : ℕ) → get_or heads.old h 0 ≡ 0 }
+    requires empty_heads { (h : ℕ) → get_or heads.old h 0 ≡ 0 }
     ensures { Net keys.now heads.new links.new }
 {
     let mut i = 0;

@@ -47,7 +47,7 @@ pub fn lift_at(list: &[i16], i: usize) -> u16
 // How far the corner number at place i lies above the lowest, -512.
 pub fn steps_at(list: &[i16], i: usize) -> u32
     requires i_in_bounds { i < length list.now }
-    requires pos_value { is_number (get_or list.now i (pos 0)) ≡ true }
+    requires corner_number { is_number (get_or list.now i (pos 0)) ≡ true }
     ensures { result ≡ steps (get_or list.now i (pos 0)) }
 {
     (lift_at(list, i) - LOWEST) as u32
@@ -56,7 +56,7 @@ pub fn steps_at(list: &[i16], i: usize) -> u32
 // The key of vertex i.
 pub fn key_at(list: &[i16], i: usize) -> u32
     requires i_in_bounds { 3 * i + 2 < length list.now }
-    requires i_value { is_corner (corner_at list.now i) ≡ true }
+    requires corner { is_corner (corner_at list.now i) ≡ true }
     ensures { result ≡ key_of (corner_at list.now i) }
 {
     let x = steps_at(list, 3 * i);

@@ -54,7 +54,7 @@ fn fitting(numbers: usize) -> usize
 fn join_small(op: u32, a: &[i16], b: &[i16], most: usize, out: &mut [i16]) -> usize
     requires valid { Valid (vertices a.now) × Valid (vertices b.now) }
     requires a_len_bound { (length (vertices a.now) ≤ 32) × (length (vertices b.now) ≤ 32) }
-    requires le_most { (32 ≤ most) × (most ≤ most_vertices) × (per_vertex * most ≤ length out.old) }
+    requires most_bounds { (32 ≤ most) × (most ≤ most_vertices) × (per_vertex * most ≤ length out.old) }
     ensures { InRoom op a.now b.now most out.old result out.new }
 {
     let count = sweep::join_few(op, a, b, FEW, out);
@@ -67,7 +67,7 @@ fn join_small(op: u32, a: &[i16], b: &[i16], most: usize, out: &mut [i16]) -> us
 // Joins two valid lists by the sweep where there is room for most vertices.
 fn join_by_sweep(op: u32, a: &[i16], b: &[i16], most: usize, out: &mut [i16]) -> usize
     requires valid { Valid (vertices a.now) × Valid (vertices b.now) }
-    requires most_le_most_vertices { (most ≤ most_vertices) × (per_vertex * most ≤ length out.old) }
+    requires most_bounds { (most ≤ most_vertices) × (per_vertex * most ≤ length out.old) }
     ensures { InRoom op a.now b.now most out.old result out.new }
 {
     if NUMBERS * FEW < a.len() {
@@ -105,7 +105,7 @@ fn join_by_merge(a: &[i16], b: &[i16], most: usize, out: &mut [i16]) -> usize
 // that is more.
 fn join_valid(op: u32, a: &[i16], b: &[i16], most: usize, out: &mut [i16]) -> usize
     requires valid { Valid (vertices a.now) × Valid (vertices b.now) }
-    requires most_le_most_vertices { (most ≤ most_vertices) × (per_vertex * most ≤ length out.old) }
+    requires most_bounds { (most ≤ most_vertices) × (per_vertex * most ≤ length out.old) }
     ensures { InRoom op a.now b.now most out.old result out.new }
 {
     if op == EXCLUSIVE {

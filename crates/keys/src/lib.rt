@@ -39,7 +39,8 @@ pub fn part_on(key: u32, axis: u32) -> u32
 pub fn read(list: &[i16], out: &mut [u32]) -> usize
     requires all { All (λ v. is_corner v ≡ true) (vertices list.now) }
     requires list_in_bounds { length (vertices list.now) ≤ length out.old }
-    ensures { (result ≡ length (vertices list.now)) × (out.new ≡ map key_of (vertices list.now) ++ drop result out.old) }
+    ensures { (result ≡ length (vertices list.now))
+        × (out.new ≡ map key_of (vertices list.now) ++ drop result out.old) }
 {
     let n = list.len() / NUMBERS;
     let mut i = 0;

@@ -11,7 +11,7 @@
 --   changed_all, changed_early   all is read; nothing turns any more
 -- Assumes nothing.
 use mathlib.Core.Path.{◌≡◌, refl, sym, ◌∙◌, ap, ap₂, subst}
-use mathlib.Core.Bool.{Bool, true, false, ◌&&◌, true≢false}
+use mathlib.Core.Bool.{Bool, true, false, ◌&&◌, and-true, true≢false}
 use mathlib.Core.List.{List, [], ◌∷◌, ◌++◌}
 use Prim.Native.Nat.{ℕ, zero, suc, ◌+◌, ◌-◌, ◌*◌, ◌/◌, ◌%◌, ◌≤◌, ◌<◌, min}
 use native.Mathlib.Nat.{sub-zero}
@@ -71,10 +71,6 @@ fits y z k = leb (k / 2048) y && leb (k % 2048) z
 
 fits_line : (p : ℕ × Number) (k : ℕ) → line_fits p k ≡ fits p.0 p.1.0 k
 fits_line p k = ap (leb (k / 2048) p.0 &&◌) (and-true (leb (k % 2048 / 1) p.1.0) ∙ ap (λ m. leb m p.1.0) (omega arith))
-  where
-    and-true : (b : Bool) → (b && true) ≡ b
-    and-true true = refl
-    and-true false = refl
 
 -- what is read of a list whose keys have an offset, seen at a cell
 abbrev pub seen : ℕ → List ℕ → ℕ → ℕ → ℕ → Bool

@@ -26,7 +26,8 @@ const NONE: u32 = 4294967295;
 fn head(keys: &[u32], i: usize, base: u32) -> u32
     requires i_in_bounds { i ≤ length keys.now }
     requires all { All (λ k. base ≤ k) keys.now }
-    ensures { ((i < length keys.now) → result ≡ get_or keys.now i 0 - base) × ((length keys.now ≤ i) → result ≡ 4294967295) }
+    ensures { ((i < length keys.now) → result ≡ get_or keys.now i 0 - base)
+        × ((length keys.now ≤ i) → result ≡ 4294967295) }
 {
     if i < keys.len() {
         return keys[i] - base;
@@ -62,8 +63,9 @@ fn changes_in(
     requires planes { Planes low (length last.old) plane sa.now sb.now pa.now pb.now }
     requires rows { Rows (length last.old) ra.old rb.old ca.old cb.old last.old }
     requires plane_bound { (plane ≤ 2149580800) × (low ≤ 1024) × (length last.old ≤ 17) }
-    requires pb_bound { n + 1088 * (length sa.now + length sb.now + length pa.now + length pb.now) ≤ 2 ^ 60 }
-    ensures { Changed op sa.now sb.now (less_base plane pa.now) (less_base plane pb.now) plane out.old n out.new result }
+    requires count_bound { n + 1088 * (length sa.now + length sb.now + length pa.now + length pb.now) ≤ 2 ^ 60 }
+    ensures { Changed op sa.now sb.now (less_base plane pa.now) (less_base plane pb.now) plane
+        out.old n out.new result }
 {
     let mut put = n;
     let mut i = 0;
@@ -105,8 +107,9 @@ fn changes(
 ) -> usize
     requires planes { Planes low words plane sa.now sb.now pa.now pb.now }
     requires plane_bound { (plane ≤ 2149580800) × (low ≤ 1024) × (words ≤ 17) }
-    requires pb_bound { n + 1088 * (length sa.now + length sb.now + length pa.now + length pb.now) ≤ 2 ^ 60 }
-    ensures { Changed op sa.now sb.now (less_base plane pa.now) (less_base plane pb.now) plane out.old n out.new result }
+    requires count_bound { n + 1088 * (length sa.now + length sb.now + length pa.now + length pb.now) ≤ 2 ^ 60 }
+    ensures { Changed op sa.now sb.now (less_base plane pa.now) (less_base plane pb.now) plane
+        out.old n out.new result }
 {
     let mut ra = [0u64; WORDS];
     let mut rb = [0u64; WORDS];
@@ -172,7 +175,8 @@ pub fn join_planes(
     room: &mut [u32],
 ) -> usize
     requires operand { Operand PlaneOk a.now × Operand PlaneOk b.now }
-    requires a_in_bounds { (length a.now ≤ length sa.old) × (length b.now ≤ length sb.old) × (length a.now ≤ length room.old) × (length b.now ≤ length room.old) }
+    requires a_in_bounds { (length a.now ≤ length sa.old) × (length b.now ≤ length sb.old)
+        × (length a.now ≤ length room.old) × (length b.now ≤ length room.old) }
     requires a_len_bound { (length a.now ≤ 2 ^ 20) × (length b.now ≤ 2 ^ 20) × (length out.old ≤ 2 ^ 20) }
     ensures { Joined plane_fits PlaneOk (holds_by op) a.now b.now out.old out.new result }
 {

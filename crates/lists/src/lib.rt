@@ -119,7 +119,7 @@ fn first_falling(list: &[i16]) -> usize
 // The numbers at offsets a and b of vertex i, as one number.
 fn pair_at(list: &[i16], i: usize, a: usize, b: usize) -> u32
     requires in_range { InRange list.now }
-    requires a_bound { (a < 3) × (b < 3) }
+    requires offsets { (a < 3) × (b < 3) }
     requires i_in_bounds { 3 * i + 2 < length list.now }
     ensures { result ≡ pair_at list.now a b i }
 {
@@ -131,7 +131,7 @@ fn pair_at(list: &[i16], i: usize, a: usize, b: usize) -> u32
 // Writes, for each vertex, its numbers at offsets a and b as one number.
 fn fill(list: &[i16], a: usize, b: usize, keys: &mut [u32])
     requires in_range { InRange list.now }
-    requires a_bound { (a < 3) × (b < 3) }
+    requires offsets { (a < 3) × (b < 3) }
     requires list_in_bounds { length (vertices list.now) ≤ length keys.old }
     ensures { Filled list.now a b (length (vertices list.now)) keys.new }
 {
@@ -161,7 +161,7 @@ fn in_pairs(list: &[i16]) -> bool
 // The first vertex whose numbers at offsets a and b are those of an odd number of vertices, or the count of vertices.
 fn first_odd_pair(list: &[i16], a: usize, b: usize, keys: &mut [u32]) -> usize
     requires in_range { InRange list.now }
-    requires a_bound { (a < 3) × (b < 3) }
+    requires offsets { (a < 3) × (b < 3) }
     requires list_in_bounds { length (vertices list.now) ≤ length keys.old }
     requires list_len_bound { length (vertices list.now) ≤ most_vertices }
     ensures { (axis : Axis) → Offsets axis a b → result ≡ first_on axis (vertices list.now) }

@@ -93,9 +93,11 @@ fn raise_all(keys: &[u32], axis: u32, at: u32, out: &mut [u32])
 // Writes the pair keys of a section to the front of keys, and answers how many there are; work is room to work in.
 pub fn section_keys(list: &[i16], axis: u32, cut: u32, keys: &mut [u32], work: &mut [u32]) -> usize
     requires valid { Valid (vertices list.now) }
-    requires list_in_bounds { length (vertices list.now) ≤ length keys.old }
-    requires list_in_bounds_2 { length (vertices list.now) ≤ length work.old }
-    ensures { KeysOf PairOk pair_of_key (one_pairs (section_at (axis_at axis) (number cut) (permitted (vertices list.now)))) keys.new result }
+    requires keys_room { length (vertices list.now) ≤ length keys.old }
+    requires work_room { length (vertices list.now) ≤ length work.old }
+    ensures { KeysOf PairOk pair_of_key
+        (one_pairs (section_at (axis_at axis) (number cut) (permitted (vertices list.now))))
+        keys.new result }
 {
     let count = keys::read(list, work);
     let n = pairs_below(&work[..count], axis, cut, keys);
@@ -107,8 +109,8 @@ pub fn section_keys(list: &[i16], axis: u32, cut: u32, keys: &mut [u32], work: &
 fn upper_keys(whole: &[u32], axis: u32, at: u32, upper: &mut [u32], work: &mut [u32]) -> usize
     requires all { All KeyOk whole.now }
     requires at_bound { at ≤ 1024 }
-    requires whole_in_bounds { length whole.now ≤ length upper.old }
-    requires whole_in_bounds_2 { length whole.now ≤ length work.old }
+    requires upper_room { length whole.now ≤ length upper.old }
+    requires work_room { length whole.now ≤ length work.old }
     ensures { Front (norm (map (raised_key (axis_at axis) at) whole.now)) upper.new result }
 {
     raise_all(whole, axis, at, upper);
@@ -127,11 +129,15 @@ pub fn split_keys(
 ) -> Halves
     requires valid { Valid (vertices list.now) }
     requires at_bound { at ≤ 1024 }
-    requires list_in_bounds { length (vertices list.now) ≤ length whole.old }
-    requires list_in_bounds_2 { length (vertices list.now) ≤ length upper.old }
-    requires list_in_bounds_3 { 2 * length (vertices list.now) ≤ length lower.old }
-    ensures keys_of { KeysOf KeyOk of_key (one_list (lower_half (axis_at axis) (number at) (permitted (vertices list.now)))) lower.new result.lower }
-    ensures keys_of_2 { KeysOf KeyOk of_key (one_list (upper_half (axis_at axis) (number at) (permitted (vertices list.now)))) upper.new result.upper }
+    requires whole_room { length (vertices list.now) ≤ length whole.old }
+    requires upper_room { length (vertices list.now) ≤ length upper.old }
+    requires lower_room { 2 * length (vertices list.now) ≤ length lower.old }
+    ensures lower_keys { KeysOf KeyOk of_key
+        (one_list (lower_half (axis_at axis) (number at) (permitted (vertices list.now))))
+        lower.new result.lower }
+    ensures upper_keys { KeysOf KeyOk of_key
+        (one_list (upper_half (axis_at axis) (number at) (permitted (vertices list.now))))
+        upper.new result.upper }
 {
     let n = keys::read(list, whole);
     let above = upper_keys(&whole[..n], axis, at, upper, lower);

@@ -104,7 +104,7 @@ fn closing_sum(n: usize, list: &[i16]) -> usize
 // What the verdict on n vertices comes to.
 fn by_verdict(verdict: Verdict, n: usize) -> Read
     requires { n ≤ 1024 }
-    ensures l_value { (l : List ℤ) → meant result l ≡ by_verdict (take (3 * n) l) verdict }
+    ensures means { (l : List ℤ) → meant result l ≡ by_verdict (take (3 * n) l) verdict }
     ensures at_most { AtMost 1024 result }
 {
     match verdict {

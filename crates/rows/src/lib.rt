@@ -113,7 +113,8 @@ pub fn put_line(
     out: &mut [u32],
     n: usize,
 ) -> usize
-    requires ra_len { (length ra.now ≡ length last.old) × (length rb.now ≡ length last.old) × (length ca.now ≡ length last.old) × (length cb.now ≡ length last.old) }
+    requires same_lengths { (length ra.now ≡ length last.old) × (length rb.now ≡ length last.old)
+        × (length ca.now ≡ length last.old) × (length cb.now ≡ length last.old) }
     requires last_bound { (start + 64 * length last.old ≤ 2 ^ 32) × (n ≤ 2 ^ 61) }
     ensures { PutLine op ra.now rb.now ca.now cb.now last.old start out.old n last.new out.new result }
 {

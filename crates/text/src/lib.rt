@@ -25,7 +25,7 @@ const TOO_LONG: usize = 12;
 #[tactic(auto, using(crate::proofs::Outcomes::wishes_refused))]
 fn answer_wishes(input: &[u8], n: usize, list: &[i16], out: &mut [u8]) -> usize
     requires n_bound { n ≤ 1024 }
-    requires list_value { verdict list.now ≡ Verdict.Valid }
+    requires valid { verdict list.now ≡ Verdict.Valid }
     requires in_bounds { 4352 ≤ length out.old }
     ensures { Put (with_wishes list.now (wish_text input.now n))
         out.old result out.new }

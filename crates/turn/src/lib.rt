@@ -53,8 +53,8 @@ fn take_some(
 ) -> usize
     requires n_in_bounds { (n ≤ length sec.old) × (i ≤ e) × (e ≤ length keys.now) }
     requires i_in_bounds { (n + (e - i) ≤ length sec.old) × (n + (e - i) ≤ length room.old) }
-    requires all { All (λ k. base ≤ k) (plane_of keys.now i e) }
-    requires all_2 { All (λ k. k < 2 ^ 32) (plane_of keys.now i e) × All (λ k. k < 2 ^ 32) (take n sec.old) }
+    requires above { All (λ k. base ≤ k) (plane_of keys.now i e) }
+    requires fits { All (λ k. k < 2 ^ 32) (plane_of keys.now i e) × All (λ k. k < 2 ^ 32) (take n sec.old) }
     ensures { Taken sec.old n (plane_of keys.now i e) base sec.new result }
 {
     let m = rising::merge(&sec[..n], &keys[i..e], base, room);
@@ -74,8 +74,8 @@ pub fn take_in(
 ) -> usize
     requires n_in_bounds { (n ≤ length sec.old) × (i ≤ e) × (e ≤ length keys.now) }
     requires i_in_bounds { (n + (e - i) ≤ length sec.old) × (n + (e - i) ≤ length room.old) }
-    requires all { All (λ k. base ≤ k) (plane_of keys.now i e) }
-    requires all_2 { All (λ k. k < 2 ^ 32) (plane_of keys.now i e) × All (λ k. k < 2 ^ 32) (take n sec.old) }
+    requires above { All (λ k. base ≤ k) (plane_of keys.now i e) }
+    requires fits { All (λ k. k < 2 ^ 32) (plane_of keys.now i e) × All (λ k. k < 2 ^ 32) (take n sec.old) }
     ensures { Taken sec.old n (plane_of keys.now i e) base sec.new result }
 {
     if i == e {

@@ -11,7 +11,7 @@ link-requires c = let p = c.requires in record {
   parted = p.0;
   keys_len_bound = p.1;
   heads_len = (refl, p.1);
-  by_index = no_heads 1025;
+  empty_heads = no_heads 1025;
 }
 
 pub first_linked-requires : goal.first_linked-requires

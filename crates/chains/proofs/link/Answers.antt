@@ -7,7 +7,7 @@ use borrow.Author.Rules.{rules}
 use Rattle.chains.proofs.link.Goals as goal
 
 pub loop-i-init : goal.loop-i-init
-loop-i-init c = (linking_first _ _ _ c.requires.heads_len c.requires.by_index, refl)
+loop-i-init c = (linking_first _ _ _ c.requires.heads_len c.requires.empty_heads, refl)
 
 pub overflow_cast-heads : goal.overflow_cast-heads
 unfolding most_vertices

@@ -86,7 +86,7 @@ put_line-put-requires-clause-last_bound c =
     let n = (goal.at.put_line-put-requires-clause-last_bound c).After-lesser-least in
     let w = c.loop-i.invariant in
     let p = c.requires in
-    (omega (arith, small n, p.plane_bound, w.long), omega (arith, put_bound w, p.pb_bound, (heads n).left))
+    (omega (arith, small n, p.plane_bound, w.long), omega (arith, put_bound w, p.count_bound, (heads n).left))
 
 pub returns-then-is_zero-2 : goal.returns-then-is_zero-2
 returns-then-is_zero-2 c =

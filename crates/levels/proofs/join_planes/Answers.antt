@@ -24,20 +24,20 @@ pub returns-then-out-n : goal.returns-then-out-n
 returns-then-out-n c =
     short c.loop-i.invariant c.next-plane.ensures c.changes-n.ensures (omega (arith, c.changes-n.ensures.put.long, c.if-out-n.true))
 
-pub take_in-na-requires-clause-all : goal.take_in-na-requires-clause-all
-take_in-na-requires-clause-all c =
+pub take_in-na-requires-clause-above : goal.take_in-na-requires-clause-above
+take_in-na-requires-clause-above c =
     (asks_a c.loop-i.invariant c.next-plane.ensures c.loop-i.room c.loop-i.invariant.long_room).1.1.0
 
-pub take_in-na-requires-clause-all_2 : goal.take_in-na-requires-clause-all_2
-take_in-na-requires-clause-all_2 c =
+pub take_in-na-requires-clause-fits : goal.take_in-na-requires-clause-fits
+take_in-na-requires-clause-fits c =
     (asks_a c.loop-i.invariant c.next-plane.ensures c.loop-i.room c.loop-i.invariant.long_room).1.1.1
 
-pub take_in-nb-requires-clause-all : goal.take_in-nb-requires-clause-all
-take_in-nb-requires-clause-all c =
+pub take_in-nb-requires-clause-above : goal.take_in-nb-requires-clause-above
+take_in-nb-requires-clause-above c =
     (asks_b c.loop-i.invariant c.next-plane.ensures c.loop-i.room c.loop-i.invariant.long_room).1.1.0
 
-pub take_in-nb-requires-clause-all_2 : goal.take_in-nb-requires-clause-all_2
-take_in-nb-requires-clause-all_2 c =
+pub take_in-nb-requires-clause-fits : goal.take_in-nb-requires-clause-fits
+take_in-nb-requires-clause-fits c =
     (asks_b c.loop-i.invariant c.next-plane.ensures c.loop-i.room c.loop-i.invariant.long_room).1.1.1
 
 pub loop-i-preserved : goal.loop-i-preserved

@@ -15,13 +15,13 @@ place c = omega (arith, length_vertices c.args.list.now)
 pub key_at-last-requires : goal.key_at-last-requires
 key_at-last-requires c = record {
   i_in_bounds = omega arith;
-  i_value = c.requires 0 (omega (arith, length_vertices c.args.list.now));
+  corner = c.requires 0 (omega (arith, length_vertices c.args.list.now));
 }
 
 pub key_at-key-requires : goal.key_at-key-requires
 key_at-key-requires c = let h = place c in record {
   i_in_bounds = omega (arith, length_vertices c.args.list.now);
-  i_value = c.requires c.loop-i.i h;
+  corner = c.requires c.loop-i.i h;
 }
 
 pub loop-i-preserved : goal.loop-i-preserved

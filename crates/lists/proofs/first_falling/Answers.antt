@@ -27,7 +27,7 @@ pub key_at-requires : goal.key_at-requires
 key_at-requires c =
     let h = place c in record {
       i_in_bounds = omega (arith, length_vertices c.args.list.now);
-      i_value = c.requires c.loop-i.i h;
+      corner = c.requires c.loop-i.i h;
     }
 
 -- the test at the place of a turn, by the two keys
@@ -42,7 +42,7 @@ pub key_at-requires-in-loop-i : goal.key_at-requires-in-loop-i
 key_at-requires-in-loop-i c =
     let h = place (goal.at.key_at-requires-in-loop-i c).In-loop-i in record {
       i_in_bounds = omega (arith, length_vertices c.args.list.now);
-      i_value = c.requires (c.loop-i.i - 1) (omega arith);
+      corner = c.requires (c.loop-i.i - 1) (omega arith);
     }
 
 pub returns-then-key_at : goal.returns-then-key_at

@@ -26,7 +26,7 @@ pub first_odd-requires : goal.first_odd-requires
 first_odd-requires c =
     let l = c.args.list.now in
     let room_n : length l / 3 ≤ length c.fill.new.keys = omega (arith, room (goal.at.first_odd-requires c).After-fill, length_vertices l) in (
-      filled_parted l c.args.a c.args.b (length l / 3) c.fill.new.keys c.requires.in_range c.requires.a_bound (sym (length_vertices l)) room_n c.fill.ensures,
+      filled_parted l c.args.a c.args.b (length l / 3) c.fill.new.keys c.requires.in_range c.requires.offsets (sym (length_vertices l)) room_n c.fill.ensures,
       omega (arith, length-take-le (length l / 3) c.fill.new.keys room_n, length_vertices l, c.requires.list_len_bound),
     )
 

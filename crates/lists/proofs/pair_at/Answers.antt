@@ -6,19 +6,19 @@ use Rattle.meaning.specs.Lists.{vertices}
 use Rattle.lists.proofs.Vertices.{length_vertices, number_in, steps_in}
 use Rattle.lists.proofs.pair_at.Goals as goal
 
-pub steps_at-one-requires-clause-pos_value : goal.steps_at-one-requires-clause-pos_value
-steps_at-one-requires-clause-pos_value c =
-    number_in c.args.list.now c.args.i c.args.a c.requires.in_range (omega (arith, length_vertices c.args.list.now)) c.requires.a_bound.0
+pub steps_at-one-requires-clause-corner_number : goal.steps_at-one-requires-clause-corner_number
+steps_at-one-requires-clause-corner_number c =
+    number_in c.args.list.now c.args.i c.args.a c.requires.in_range (omega (arith, length_vertices c.args.list.now)) c.requires.offsets.0
 
-pub steps_at-two-requires-clause-pos_value : goal.steps_at-two-requires-clause-pos_value
-steps_at-two-requires-clause-pos_value c =
-    number_in c.args.list.now c.args.i c.args.b c.requires.in_range (omega (arith, length_vertices c.args.list.now)) c.requires.a_bound.1
+pub steps_at-two-requires-clause-corner_number : goal.steps_at-two-requires-clause-corner_number
+steps_at-two-requires-clause-corner_number c =
+    number_in c.args.list.now c.args.i c.args.b c.requires.in_range (omega (arith, length_vertices c.args.list.now)) c.requires.offsets.1
 
 pub overflow_mul-result : goal.overflow_mul-result
 overflow_mul-result c =
     let l = c.args.list.now in
     let place : c.args.i < length (vertices l) = omega (arith, length_vertices l) in
-    omega (arith, c.steps_at-one.ensures, steps_in l c.args.i c.args.a c.requires.in_range place c.requires.a_bound.0)
+    omega (arith, c.steps_at-one.ensures, steps_in l c.args.i c.args.a c.requires.in_range place c.requires.offsets.0)
 
 pub overflow_add-result : goal.overflow_add-result
 overflow_add-result c =
@@ -28,6 +28,6 @@ overflow_add-result c =
       arith,
       c.steps_at-one.ensures,
       c.steps_at-two.ensures,
-      steps_in l c.args.i c.args.a c.requires.in_range place c.requires.a_bound.0,
-      steps_in l c.args.i c.args.b c.requires.in_range place c.requires.a_bound.1,
+      steps_in l c.args.i c.args.a c.requires.in_range place c.requires.offsets.0,
+      steps_in l c.args.i c.args.b c.requires.in_range place c.requires.offsets.1,
     )

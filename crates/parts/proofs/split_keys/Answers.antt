@@ -39,13 +39,13 @@ merge-below-requires-clause-b_in_bounds c =
 pub merge-below-requires-clause-all : goal.merge-below-requires-clause-all
 merge-below-requires-clause-all c = none_below _
 
-pub returns-clause-keys_of : goal.returns-clause-keys_of
-returns-clause-keys_of c =
-    let r = (goal.at.returns-clause-keys_of c).After-read-n in
+pub returns-clause-lower_keys : goal.returns-clause-lower_keys
+returns-clause-lower_keys c =
+    let r = (goal.at.returns-clause-lower_keys c).After-read-n in
     lower_made (axis_at c.args.axis) (corners r) c.requires.valid c.args.at c.requires.at_bound (held r) c.upper_keys-above.ensures
     (merged_placed (whole r) _ c.upper_keys-above.new.work c.merge-below.ensures.0 c.merge-below.ensures.1)
 
-pub returns-clause-keys_of_2 : goal.returns-clause-keys_of_2
-returns-clause-keys_of_2 c =
-    let r = (goal.at.returns-clause-keys_of_2 c).After-read-n in
+pub returns-clause-upper_keys : goal.returns-clause-upper_keys
+returns-clause-upper_keys c =
+    let r = (goal.at.returns-clause-upper_keys c).After-read-n in
     upper_made (axis_at c.args.axis) (corners r) c.requires.valid c.args.at c.requires.at_bound (held r) c.upper_keys-above.ensures

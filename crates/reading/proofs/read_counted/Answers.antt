@@ -14,7 +14,7 @@ pub returns-clause-list_after : goal.returns-clause-list_after
 returns-clause-list_after c =
     let ill = c.frames_from-ill in
     let few : c.args.n ≤ most_vertices = omega (arith, most_vertices_lem) in
-    c.by_verdict.ensures.l_value _ ∙
+    c.by_verdict.ensures.means _ ∙
     ap (by_verdict _) (checked_verdict _ _ c.check.ensures) ∙
     sum_right _ _ few ill.ensures.value (omega arith) c.in-Number.ensures
     (all_read _ _ _ c.args.n _ ill.ensures.value (omega arith) ill.ensures.list_after) (omega arith ∙ c.closing_sum.ensures)

@@ -3,5 +3,5 @@ use Rattle.reading.proofs.Places.{map_read}
 use Rattle.text.proofs.respond.Goals as goal
 
 -- a map that is read whole is valid
-pub answer_wishes-requires-clause-list_value : goal.answer_wishes-requires-clause-list_value
-answer_wishes-requires-clause-list_value c = (map_read _ _ c.in-Whole.ensures.list_after).valid
+pub answer_wishes-requires-clause-valid : goal.answer_wishes-requires-clause-valid
+answer_wishes-requires-clause-valid c = (map_read _ _ c.in-Whole.ensures.list_after).valid

@@ -30,7 +30,7 @@ put-requires c =
       all = copied c.args.sec.now c.args.keys.now c.args.n c.args.i c.args.e c.args.base p.n_in_bounds.0 p.n_in_bounds.1 p.n_in_bounds.2 c.merge-m.result
           c.args.room.now c.merge-m.new.out [] c.merge-m.ensures.0 c.merge-m.ensures.1 (λ k. 0 + k < 2 ^ 32)
           (into_fits c.args.sec.now c.args.keys.now c.args.n c.args.i c.args.e c.args.base p.n_in_bounds.0 p.n_in_bounds.1 p.n_in_bounds.2
-          p.all_2.0 p.all_2.1);
+          p.fits.0 p.fits.1);
     }
 
 pub returns : goal.returns
