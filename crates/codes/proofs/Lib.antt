@@ -3,4 +3,3 @@ pub mod Tests
 pub mod Shift
 pub mod Laws
 pub mod Keys
-pub mod Sums

@@ -7,33 +7,33 @@ ghost use Rattle.meaning.specs.Numbers.{is_number, is_corner, steps};
 ghost use Rattle.codes.specs.Lift.{lifted, lowered};
 ghost use Rattle.codes.specs.Keys.{key_of, corner_at};
 
-// How far -32768 lies below 0.
-const SHIFT: i32 = 32768;
+// What 0 is after the shift.
+const ORIGIN: u16 = 1 << 15;
 
 // The lowest corner number, -512, after the shift.
-pub const LOWEST: u16 = 32256;
+pub const LOWEST: u16 = ORIGIN - 512;
 
 // The highest corner number, 512, after the shift.
-pub const HIGHEST: u16 = 33280;
+pub const HIGHEST: u16 = ORIGIN + 512;
 
 // How far two neighbouring lines of a plane lie apart, as keys.
-pub const LINE: u32 = 2048;
+pub const LINE: u32 = 1 << 11;
 
 // How far two neighbouring planes lie apart, as keys: 1,025 lines.
-pub const PLANE: u32 = 2099200;
+pub const PLANE: u32 = 1025 * LINE;
 
 // How far x lies above -32768.
 pub fn lift(x: i16) -> u16
     ensures { result ≡ lifted x }
 {
-    (x as i32 + SHIFT) as u16
+    x.abs_diff(i16::MIN)
 }
 
 // The number that lies u above -32768.
 pub fn lower(u: u16) -> i16
     ensures { result ≡ lowered u }
 {
-    (u as i32 - SHIFT) as i16
+    i16::MIN.wrapping_add_unsigned(u)
 }
 
 // How far the number at place i lies above -32768.

@@ -5,26 +5,16 @@
 ghost use Rattle.std.specs.Prelude.{◌≡◌};
 ghost use Rattle.words.specs.Words.{signed as words_signed, word as words_word};
 
-// Half of the numbers of 16 bits: so many are below 0.
-const HALF: u16 = 1 << 15;
-
 // The number with these bits: FFFD is -3.
 pub fn signed(n: u16) -> i16
     ensures { result ≡ words_signed n }
 {
-    if n < HALF {
-        return codes::lower(n + HALF);
-    }
-    codes::lower(n - HALF)
+    n.cast_signed()
 }
 
 // The bits of a number, as a number without sign: those of -3 are FFFD.
 pub fn word(x: i16) -> u16
     ensures { result ≡ words_word x }
 {
-    let u = codes::lift(x);
-    if u < HALF {
-        return u + HALF;
-    }
-    u - HALF
+    x.cast_unsigned()
 }
