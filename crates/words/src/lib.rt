@@ -1,5 +1,4 @@
-// Two's complement: a signed number of 16 bits as its bits, and back. Inner: what packed answers and the text form build on. It relies on `codes` for
-// the crossing between signed and unsigned numbers.
+// Two's complement: a signed number of 16 bits as its bits, and back. Inner: what packed answers and the text form build on.
 #![tactic(auto)]
 
 ghost use Rattle.std.specs.Prelude.{◌≡◌};
