@@ -39,5 +39,5 @@ pub fn kind_of(mask: u8) -> u8
 pub fn count_of(mask: u8) -> u32
     ensures { result ≡ ones mask }
 {
-    u8::count_ones(mask)
+    mask.count_ones()
 }
