@@ -38,12 +38,10 @@ fn link(keys: &[u32], heads: &mut [u16], links: &mut [u16])
     requires empty_heads { (h : ℕ) → get_or heads.old h 0 ≡ 0 }
     ensures { Net keys.now heads.new links.new }
 {
-    let mut i = 0;
-    while i < keys.len() {
+    for i in 0..keys.len() {
         let high = high_at(keys, i);
         links[i] = heads[high];
         heads[high] = (i + 1) as u16;
-        i += 1;
     }
 }
 
@@ -56,6 +54,7 @@ fn turn(keys: &[u32], links: &[u16], last: usize, flags: &mut [bool], up: usize)
 {
     let mut count = up;
     let mut at = last + 1;
+    // A walk along links: no iterator has its places.
     while 0 < at {
         let place = at - 1;
         let low = low_at(keys, place);
@@ -79,6 +78,7 @@ fn first_up(keys: &[u32], links: &[u16], last: usize, flags: &[bool]) -> usize
 {
     let mut found = keys.len();
     let mut at = last + 1;
+    // A walk along links: no iterator has its places.
     while 0 < at {
         let place = at - 1;
         if flags[low_at(keys, place)] {
@@ -123,10 +123,8 @@ fn first_linked(keys: &[u32], heads: &[u16], links: &[u16], flags: &mut [bool]) 
     ensures { result ≡ first_odd keys.now }
 {
     let mut first = keys.len();
-    let mut i = 0;
-    while i < keys.len() {
-        first = codes::lesser(first, first_ending(keys, heads, links, i, flags));
-        i += 1;
+    for place in 0..keys.len() {
+        first = first.min(first_ending(keys, heads, links, place, flags));
     }
     first
 }

@@ -2,8 +2,8 @@
 use Rattle.chains.proofs.Chains.{covered_none, covered_all}
 use Rattle.chains.proofs.first_linked.Goals as goal
 
-pub loop-i-init : goal.loop-i-init
-loop-i-init c = (covered_none _, c.requires.flags_len)
+pub loop-place-init : goal.loop-place-init
+loop-place-init c = (covered_none _, c.requires.flags_len.1)
 
 pub returns : goal.returns
-returns c = covered_all c.loop-i.invariant.0 c.loop-i-test.false
+returns c = covered_all c.loop-place.invariant.0 c.loop-place-test.false
