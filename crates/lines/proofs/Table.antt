@@ -5,6 +5,7 @@
 --   entry_flips, flipped      the store of that entry flips the key, and no other
 --   holds_next, holds_all     a table that holds what was read: with one key more; with all of them
 --   holds_none, holds_empty   a table with no live entry of a key does not hold it; a table of zeros holds nothing
+--   live_le                   at most all entries are live
 --   none_live                 where no entry is live, every key occurs an even number of times
 --   parted_keyed              keys in parts have entries
 use mathlib.Core.Path.{◌≡◌, refl, sym, ◌∙◌}
@@ -17,6 +18,8 @@ use native.Mathlib.Omega.{arith}
 use lib.Dec.{eqb}
 use lib.ListN.{length, get_or, set, take, replicate, length-replicate, get_or-replicate}
 use borrow.Author.Tests.{eq-eqb, ne_eqb, eqb-true, eqb-false}
+use Rattle.std.proofs.Common.{sum_by}
+use Rattle.std.proofs.lemmas.List.Sums.{get_or-le-sum_by, sum_by-cons}
 use Rattle.meaning.specs.Counting.{count, odd}
 use Rattle.lines.specs.Table.{range, IsKeyed, live, holds, Flipped, Holds, NoneOdd}
 use Rattle.chains.specs.Chains.{Parted}
@@ -96,10 +99,16 @@ holds_empty n = record { every = λ j. holds_none (replicate n 0) j (λ s h q. o
     zero_at : (s : ℕ) → s < length {A = ℕ} (replicate n 0) → get_or {A = ℕ} (replicate n 0) s 0 ≡ 0
     zero_at s h = get_or-replicate n s 0 0 (rw length-replicate at h)
 
+-- at most all entries are live
+pub live_le : (t : List ℕ) → sum_by (λ entry. entry % 2) t ≤ length t
+live_le [] = omega arith
+live_le (e ∷ t) = omega (arith, live_le t, sum_by-cons (λ entry. entry % 2) e t)
+
 -- a table with no live entry holds nothing: what it was filled with occurs an even number of times
-pub none_live : {table keys : List ℕ} → Holds table keys → ((s : ℕ) → s < length table → get_or table s 0 % 2 ≡ 0) → NoneOdd keys
-none_live {table} {keys} is even k h =
-    sym (is.every (get_or keys k 0)) ∙ holds_none table (get_or keys k 0) (λ s m q. omega (arith, even s m))
+pub none_live : {table keys : List ℕ} → Holds table keys → sum_by (λ entry. entry % 2) table ≡ 0 → NoneOdd keys
+none_live {table} {keys} is none k h =
+    sym (is.every (get_or keys k 0)) ∙
+    holds_none table (get_or keys k 0) (λ s m q. omega (arith, get_or-le-sum_by (λ entry. entry % 2) table s 0 m, none))
 
 -- a key in parts has entries that fit 32 bits
 pub parted_keyed : (keys : List ℕ) → Parted keys → (i : ℕ) → i < length keys → IsKeyed (get_or keys i 0)

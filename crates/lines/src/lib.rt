@@ -3,7 +3,7 @@
 // Where it does not, chains find the place. Nothing relies on an order of the numbers or on a property of the hashing.
 #![tactic(auto)]
 
-ghost use Rattle.std.specs.Prelude.{◌≡◌, true, false, [], ℕ, ◌<◌, ◌≤◌, ◌%◌, eqb, length, get_or};
+ghost use Rattle.std.specs.Prelude.{◌≡◌, true, [], ◌<◌, ◌≤◌, ◌%◌, eqb, length, position, unwrap_or, sum_by};
 ghost use Rattle.meaning.specs.Counting.{count, odd};
 ghost use Rattle.meaning.specs.Lists.{most_vertices};
 ghost use Rattle.chains.specs.Odd.{first_odd};
@@ -25,35 +25,26 @@ const TRIES: usize = 16;
 // What is answered where a key did not get into the table.
 const GAVE_UP: bool = false;
 // An odd number without a pattern, by which keys are spread over the slots.
-const SPREAD: u64 = 3266489909;
-// The range in which they are spread: what 32 bits hold.
-const RANGE: u64 = 4294967296;
+const SPREAD: u32 = 0xC2B2_AE35;
 
 // Whether a number occurs an odd number of times among the keys.
 fn occurs_oddly(keys: &[u32], key: u32) -> bool
     ensures { result ≡ odd (count (λ k. eqb key k) keys.now) }
 {
     let mut oddly = false;
-    let mut i = 0;
-    while i < keys.len() {
-        oddly ^= key == keys[i];
-        i += 1;
+    for k in keys {
+        oddly ^= key == *k;
     }
     oddly
 }
 
 // The first place whose key occurs an odd number of times, or the length: each key is counted over all.
 fn first_by_counting(keys: &[u32]) -> usize
-    ensures { result ≡ first_odd keys.now }
+    ensures { result ≡ unwrap_or (position (λ key. odd (count (λ k. eqb key k) keys.now)) keys.now) (length keys.now) }
 {
-    let mut place = 0;
-    while place < keys.len() {
-        if occurs_oddly(keys, keys[place]) {
-            return place;
-        }
-        place += 1;
-    }
-    place
+    keys.iter()
+        .position(|key| occurs_oddly(keys, *key))
+        .unwrap_or(keys.len())
 }
 
 // The slot at which the search for a key begins, in a table of so many slots.
@@ -61,8 +52,8 @@ fn begin(key: u32, slots: usize) -> usize
     requires { Room slots }
     ensures { result < slots }
 {
-    let spread = key as u64 * SPREAD % RANGE;
-    (spread * slots as u64 / RANGE) as usize
+    let spread = u64::from(key.wrapping_mul(SPREAD));
+    (spread * slots as u64 >> u32::BITS) as usize
 }
 
 // The slot after a slot: after the last comes the first.
@@ -81,15 +72,13 @@ fn flip(table: &mut [u32], key: u32) -> bool
 {
     let half = key + 1;
     let mut at = begin(key, table.len());
-    let mut tries: usize = 0;
-    while tries < TRIES {
+    for _ in 0..TRIES {
         let entry = table[at];
         if entry == 0 || entry / 2 == half {
             table[at] = 2 * half + 1 - entry % 2;
             return true;
         }
         at = after(at, table.len());
-        tries += 1;
     }
     GAVE_UP
 }
@@ -100,58 +89,29 @@ fn fill(table: &mut [u32], keys: &[u32]) -> bool
     requires holds { Holds table.old [] × Room (length table.old) }
     ensures { result ≡ true → Holds table.new keys.now }
 {
-    let mut done = 0;
-    while done < keys.len() {
-        if !flip(table, keys[done]) {
+    for key in keys {
+        if !flip(table, *key) {
             return GAVE_UP;
         }
-        done += 1;
     }
     true
 }
 
 // How many slots have a live entry.
 fn count_live(table: &[u32]) -> u32
-    requires { length table.now < range }
-    ensures { result ≡ 0 → (s : ℕ) → s < length table.now → get_or table.now s 0 % 2 ≡ 0 }
+    requires { sum_by (λ entry. entry % 2) table.now < range }
+    ensures { result ≡ sum_by (λ entry. entry % 2) table.now }
 {
-    let mut live: u32 = 0;
-    let mut s = 0;
-    while s < table.len() {
-        live += table[s] % 2;
-        s += 1;
-    }
-    live
+    table.iter().map(|entry| *entry % 2).sum()
 }
 
-// Whether an empty table shows that every key occurs an even number of times. It may give up, and then says no.
-fn even_by_table(keys: &[u32], table: &mut [u32]) -> bool
-    requires parted { Parted keys.now }
-    requires holds { Holds table.old [] × Room (length table.old) }
+// Whether a table of so many slots shows that every key occurs an even number of times. It may give up, and then says no.
+fn even_by<const SLOTS: usize>(keys: &[u32]) -> bool
+    requires { Parted keys.now × Room SLOTS }
     ensures { result ≡ true → NoneOdd keys.now }
 {
-    if !fill(table, keys) {
-        return false;
-    }
-    count_live(table) == 0
-}
-
-// The same by way of the small table.
-fn even_by_small(keys: &[u32]) -> bool
-    requires { Parted keys.now }
-    ensures { result ≡ true → NoneOdd keys.now }
-{
-    let mut table = [0; SMALL];
-    even_by_table(keys, &mut table)
-}
-
-// The same by way of the large table.
-fn even_by_large(keys: &[u32]) -> bool
-    requires { Parted keys.now }
-    ensures { result ≡ true → NoneOdd keys.now }
-{
-    let mut table = [0; LARGE];
-    even_by_table(keys, &mut table)
+    let mut table = [0; SLOTS];
+    fill(&mut table, keys) && count_live(&table) == 0
 }
 
 // The same by way of the table that has room.
@@ -160,9 +120,10 @@ fn shown_even(keys: &[u32]) -> bool
     ensures { result ≡ true → NoneOdd keys.now }
 {
     if keys.len() <= SOME {
-        return even_by_small(keys);
+        even_by::<SMALL>(keys)
+    } else {
+        even_by::<LARGE>(keys)
     }
-    even_by_large(keys)
 }
 
 // The first place whose key occurs an odd number of times, or the length where there is none.

@@ -6,7 +6,7 @@ use Rattle.lines.proofs.flip.Goals.{then-entry-eq0-via-then-entry-eq0, then-entr
 
 pub returns-then-entry-eq0 : goal.returns-then-entry-eq0
 returns-then-entry-eq0 c = λ _.
-    let flips = flipped _ _ _ c.args.key c.loop-tries.invariant.1.1 c.loop-tries.invariant.0 in
+    let flips = flipped _ _ _ c.args.key c.loop.invariant.1 c.loop.invariant.0 in
     elim c.then-entry-eq0.branch [
       | then-entry-eq0-via-then-entry-eq0 w ↦ flips (inl w.if-entry-eq0.true)
       | then-entry-eq0-via-else-entry-eq0+then-entry-half w ↦ flips (inr w.if-entry-half.true)
