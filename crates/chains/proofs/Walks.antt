@@ -1,5 +1,6 @@
 -- Laws of a walk along a chain, from its last place to its first.
 --   On, and its laws           where a walk stands: at a place of the chain, from 1, or at its end
+--   read                       what is read at a place of the walk
 --   Walked, and its laws       a walk that turns flags: what was turned, with what is left of the chain, is the whole
 --   Searched, and its laws     a walk that looks for a property
 use mathlib.Core.Path.{◌≡◌, refl, sym, ◌∙◌, ap, ap₂, subst}
@@ -12,7 +13,7 @@ use lib.Dec.{eqb, ltb}
 use lib.ListN.{length, take, get_or, set, length-set}
 use lib.Seq.{take-suc, take-length}
 use Rattle.meaning.specs.Counting.{count, odd}
-use Rattle.chains.specs.Chains.{high, low, latest, prior, ends, ups, odd_beside, Turned, FirstWith}
+use Rattle.chains.specs.Chains.{high, low, latest, prior, ends, ups, Chain, odd_beside, Turned, FirstWith}
 use Rattle.chains.proofs.Parity.{xor_assoc, xor_comm, xor_false, odd_snoc}
 use Rattle.chains.proofs.Flags.{turned, ups_down, ups_up}
 use Rattle.chains.proofs.Links.{latest_le, latest_on, latest_gap, latest_skip, beside}
@@ -28,6 +29,10 @@ module _ (ks : List ℕ) (last : ℕ) where
 
   pub on_first : last + 1 ≡ ends ks last → last < length ks → On (last + 1)
   on_first e l = record { within = omega arith; on = λ h. ap (λ n. high (get_or ks n 0)) (omega arith) }
+
+  -- what is read at a place of the walk is the place before it
+  pub read : {links : List ℕ} {at place : ℕ} → Chain ks links last → On at → (1 ≤ at) × (place ≡ at - 1) → get_or links place 0 ≡ prior ks (at - 1)
+  read {links} {at} {place} chain o is = chain.linked place (omega (arith, is, o.within)) ∙ ap (prior ks) is.1
 
   module _ {at next : ℕ} (o : On at) (h : 0 < at) (e : next ≡ prior ks (at - 1)) where
     pub next_is : next ≡ latest ks part (at - 1)

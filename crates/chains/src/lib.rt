@@ -45,88 +45,90 @@ fn link(keys: &[u32], heads: &mut [u16], links: &mut [u16])
     }
 }
 
-// Turns, along the chain with this last place, the flag of each low part that is met. Given how many flags are up, answers how many then are.
-fn turn(keys: &[u32], links: &[u16], last: usize, flags: &mut [bool], up: usize) -> usize
-    requires chain { Chain keys.now links.now last }
-    requires flags_len { (length flags.old ≡ 1025) × (up ≡ ups flags.old) }
-    ensures turned { Turned keys.now last flags.old flags.new }
-    ensures value { result ≡ ups flags.new }
-{
-    let mut count = up;
-    let mut at = last + 1;
-    // A walk along links: no iterator has its places.
-    while 0 < at {
-        let place = at - 1;
-        let low = low_at(keys, place);
-        if flags[low] {
-            flags[low] = false;
-            count -= 1;
-        } else {
-            flags[low] = true;
-            count += 1;
+// Keys with their places linked: where the chain of each high part ends, and the place before each place on its chain.
+#[derive(Clone, Copy)]
+struct Linkage<'a> {
+    keys: &'a [u32],
+    heads: &'a [u16],
+    links: &'a [u16],
+    ghost parted: { Parted keys.now },
+    ghost net: { Net keys.now heads.now links.now },
+}
+
+impl Linkage<'_> {
+    // Turns, along the chain with this last place, the flag of each low part that is met. Given how many flags are up, answers how many then are.
+    fn turn(&self, last: usize, flags: &mut [bool], up: usize) -> usize
+        requires chain { Chain self.now.keys.now self.now.links.now last }
+        requires flags_len { (length flags.old ≡ 1025) × (up ≡ ups flags.old) }
+        ensures turned { Turned self.now.keys.now last flags.old flags.new }
+        ensures value { result ≡ ups flags.new }
+    {
+        let mut count = up;
+        let mut at = last + 1;
+        // A walk along links: no iterator has its places.
+        while let Some(place) = at.checked_sub(1) {
+            let low = low_at(self.keys, place);
+            if flags[low] {
+                flags[low] = false;
+                count -= 1;
+            } else {
+                flags[low] = true;
+                count += 1;
+            }
+            at = self.links[place] as usize;
         }
-        at = links[place] as usize;
+        count
     }
-    count
-}
 
-// The first place on the chain with this last place whose low part has its flag up, or the length.
-fn first_up(keys: &[u32], links: &[u16], last: usize, flags: &[bool]) -> usize
-    requires chain { Chain keys.now links.now last }
-    requires flags_len { length flags.now ≡ 1025 }
-    ensures { FirstWith (flagged keys.now flags.now) keys.now last result }
-{
-    let mut found = keys.len();
-    let mut at = last + 1;
-    // A walk along links: no iterator has its places.
-    while 0 < at {
-        let place = at - 1;
-        if flags[low_at(keys, place)] {
-            found = place;
+    // The first place on the chain with this last place whose low part has its flag up, or the length.
+    fn first_up(&self, last: usize, flags: &[bool]) -> usize
+        requires chain { Chain self.now.keys.now self.now.links.now last }
+        requires flags_len { length flags.now ≡ 1025 }
+        ensures { FirstWith (flagged self.now.keys.now flags.now) self.now.keys.now last result }
+    {
+        let mut found = self.keys.len();
+        let mut at = last + 1;
+        // A walk along links: no iterator has its places.
+        while let Some(place) = at.checked_sub(1) {
+            if flags[low_at(self.keys, place)] {
+                found = place;
+            }
+            at = self.links[place] as usize;
         }
-        at = links[place] as usize;
+        found
     }
-    found
-}
 
-// The first place whose key occurs an odd number of times on the chain that ends at a place, or the length where none does or no chain ends
-// there. All flags are down before and after.
-fn first_ending(
-    keys: &[u32],
-    heads: &[u16],
-    links: &[u16],
-    place: usize,
-    flags: &mut [bool],
-) -> usize
-    requires parted { Parted keys.now × Net keys.now heads.now links.now }
-    requires place_in_bounds { place < length keys.now }
-    requires flags_len { (length flags.old ≡ 1025) × (ups flags.old ≡ 0) }
-    ensures { FirstEnding keys.now place result × (ups flags.new ≡ 0) }
-{
-    let end = heads[high_at(keys, place)] as usize;
-    if end != place + 1 {
-        return keys.len();
+    // The first place whose key occurs an odd number of times on the chain that ends at a place, or the length where none does or no chain ends
+    // there. All flags are down before and after.
+    fn first_ending(&self, place: usize, flags: &mut [bool]) -> usize
+        requires place_in_bounds { place < length self.now.keys.now }
+        requires flags_len { (length flags.old ≡ 1025) × (ups flags.old ≡ 0) }
+        ensures { FirstEnding self.now.keys.now place result × (ups flags.new ≡ 0) }
+    {
+        let end = self.heads[high_at(self.keys, place)] as usize;
+        if end != place + 1 {
+            return self.keys.len();
+        }
+        let up = self.turn(place, flags, 0);
+        if up == 0 {
+            return self.keys.len();
+        }
+        let found = self.first_up(place, flags);
+        self.turn(place, flags, up);
+        found
     }
-    let up = turn(keys, links, place, flags, 0);
-    if up == 0 {
-        return keys.len();
-    }
-    let found = first_up(keys, links, place, flags);
-    turn(keys, links, place, flags, up);
-    found
-}
 
-// The first place whose key occurs an odd number of times, or the length, of places that are linked. All flags are down before.
-fn first_linked(keys: &[u32], heads: &[u16], links: &[u16], flags: &mut [bool]) -> usize
-    requires parted { Parted keys.now × Net keys.now heads.now links.now }
-    requires flags_len { (length flags.old ≡ 1025) × (ups flags.old ≡ 0) }
-    ensures { result ≡ first_odd keys.now }
-{
-    let mut first = keys.len();
-    for place in 0..keys.len() {
-        first = first.min(first_ending(keys, heads, links, place, flags));
+    // The first place whose key occurs an odd number of times, or the length. All flags are down before.
+    fn first_odd(&self, flags: &mut [bool]) -> usize
+        requires { (length flags.old ≡ 1025) × (ups flags.old ≡ 0) }
+        ensures { result ≡ first_odd self.now.keys.now }
+    {
+        let mut first = self.keys.len();
+        for place in 0..self.keys.len() {
+            first = first.min(self.first_ending(place, flags));
+        }
+        first
     }
-    first
 }
 
 // The first place whose key occurs an odd number of times, or the length.
@@ -138,5 +140,10 @@ pub fn first_by_chains(keys: &[u32]) -> usize
     let mut links = [0u16; MOST_VERTICES];
     let mut flags = [false; PARTS];
     link(keys, &mut heads, &mut links);
-    first_linked(keys, &heads, &links, &mut flags)
+    let linkage = Linkage {
+        keys,
+        heads: &heads,
+        links: &links,
+    };
+    linkage.first_odd(&mut flags)
 }

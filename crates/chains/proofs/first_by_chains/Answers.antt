@@ -14,8 +14,5 @@ link-requires c = let p = c.requires in record {
   empty_heads = no_heads 1025;
 }
 
-pub first_linked-requires : goal.first_linked-requires
-first_linked-requires c = record {
-  parted = (c.requires.0, c.link.ensures);
-  flags_len = (refl, ups_new 1025);
-}
+pub first_odd-requires : goal.first_odd-requires
+first_odd-requires c = (refl, ups_new 1025)

@@ -1,8 +1,0 @@
--- `chains::first_linked` meets its contract. The loop's invariant: the chains that end before the present place have been looked at. Assumes nothing.
-use mathlib.Core.Path.{◌≡◌}
-use Rattle.chains.specs.Chains.{ups}
-use Rattle.chains.proofs.Chains.{Covered}
-use Rattle.chains.proofs.first_linked.Given as goal
-
-abbrev pub invariant-loop-place : goal.invariant-loop-place
-invariant-loop-place l = Covered l.keys l.first l.place × (ups l.flags ≡ 0)
