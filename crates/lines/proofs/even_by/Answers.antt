@@ -1,5 +1,5 @@
--- `lines::even_by` meets its contract: a table of zeros holds nothing; one that holds just the keys that occur an odd number of times, and has no live
--- entry, says that there are none. Assumes nothing.
+-- `lines::even_by` meets its contract: a table of zeros holds nothing; one with no live entry shows that no key occurs an odd number of times.
+-- Assumes nothing.
 use mathlib.Core.Path.{sym, ◌∙◌}
 use Prim.Native.Nat.{ℕ}
 use native.Mathlib.Omega.{arith}
