@@ -3,7 +3,6 @@
 --   part         the next numbers are written into a part of a slice
 -- Assumes nothing.
 use mathlib.Core.Path.{◌≡◌, refl, sym, ◌∙◌, ap, subst}
-use mathlib.Core.Bool.{true}
 use mathlib.Core.List.{List, [], ◌∷◌, ◌++◌, map, append_assoc}
 use Prim.Native.Nat.{ℕ, suc, ◌+◌, ◌*◌, ◌≤◌, ◌<◌}
 use native.Mathlib.Omega.{arith}
@@ -17,10 +16,10 @@ use mir.Syntax.{w16}
 use mir.Val.{to_z, of_z}
 use mir.ValLaws.{to_z-of_z}
 use Rattle.std.proofs.lemmas.Slice.{take-put_mid, drop-put_mid}
-use Rattle.meaning.specs.Numbers.{is_corner, number}
+use Rattle.meaning.specs.Numbers.{number}
 use Rattle.meaning.specs.Lists.{vertices}
 use Rattle.codes.specs.Keys.{key_of, corner_at}
-use Rattle.rising.proofs.Written.{Written, none, one, to_come, all}
+use Rattle.rising.proofs.Written.{Written, one, to_come, all}
 use Rattle.codes.proofs.Laws.{number_fits_lem, is_number_number}
 use Rattle.keys.proofs.Corners.{Corners}
 
@@ -55,30 +54,23 @@ pub record Reading (ns : List ℤ) (before now : List ℕ) (i : ℕ) : Type 0 wh
   pub corners : Corners (vertices (drop (3 * i) ns))
   pub written : Written (map key_of (vertices ns)) (map key_of (vertices (drop (3 * i) ns))) before now i
 
-module _ (ns : List ℤ) (before : List ℕ) where
-  pub reading_begins : Corners (vertices ns) → length (vertices ns) ≤ length before → Reading ns before before 0
-  reading_begins h k = record { room = omega arith; corners = h; written = none _ before }
+module _ (ns : List ℤ) (before now : List ℕ) (i : ℕ) (m : Reading ns before now i) where
+  reading_room : 3 * i + 2 < length ns → i < length now
+  reading_room h = omega (arith, m.room, m.written.long, ap length (vertices_from ns i h))
 
-  module _ (now : List ℕ) (i : ℕ) (m : Reading ns before now i) where
-    pub reading_corner : 3 * i + 2 < length ns → is_corner (corner_at ns i) ≡ true
-    reading_corner h = (subst Corners (vertices_from ns i h) m.corners).0
+  pub reads : 3 * i + 2 < length ns → Reading ns before (set now i (key_of (corner_at ns i))) (i + 1)
+  reads h =
+      let e = vertices_from ns i h in
+      record {
+        room = omega (arith, m.room, ap length e);
+        corners = (subst Corners e m.corners).1;
+        written = one (key_of (corner_at ns i)) (to_come _ m.written (ap (map key_of) e)) (reading_room h);
+      }
 
-    pub reading_room : 3 * i + 2 < length ns → i < length now
-    reading_room h = omega (arith, m.room, m.written.long, ap length (vertices_from ns i h))
-
-    pub reads : 3 * i + 2 < length ns → Reading ns before (set now i (key_of (corner_at ns i))) (i + 1)
-    reads h =
-        let e = vertices_from ns i h in
-        record {
-          room = omega (arith, m.room, ap length e);
-          corners = (subst Corners e m.corners).1;
-          written = one (key_of (corner_at ns i)) (to_come _ m.written (ap (map key_of) e)) (reading_room h);
-        }
-
-    pub reading_ends : {n : ℕ} → i ≡ n → length ns < 3 * i + 3 → (n ≡ length (vertices ns)) × (now ≡ map key_of (vertices ns) ++ drop n before)
-    reading_ends e h =
-        let r = all (to_come [] m.written (ap (map key_of) (few_none (drop (3 * i) ns) (omega (arith, length-drop (3 * i) ns))))) in
-        (sym e ∙ r.0 ∙ length-map (vertices ns) key_of, r.1 ∙ ap (λ k. map key_of (vertices ns) ++ drop k before) e)
+  pub reading_ends : {n : ℕ} → i ≡ n → length ns < 3 * i + 3 → (n ≡ length (vertices ns)) × (now ≡ map key_of (vertices ns) ++ drop n before)
+  reading_ends e h =
+      let r = all (to_come [] m.written (ap (map key_of) (few_none (drop (3 * i) ns) (omega (arith, length-drop (3 * i) ns))))) in
+      (sym e ∙ r.0 ∙ length-map (vertices ns) key_of, r.1 ∙ ap (λ k. map key_of (vertices ns) ++ drop k before) e)
 
 -- ---- numbers from steps
 
