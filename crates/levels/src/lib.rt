@@ -194,6 +194,7 @@ pub fn join_planes(
     let mut i = 0;
     let mut j = 0;
     let mut n = 0;
+    // Lengths beside the sections: without a heap a list that grows is a lent slice and how many keys it has.
     let mut na = 0;
     let mut nb = 0;
     // Indices: two lists are gone through at once, plane by plane, and each plane says how far; no iterator does.
