@@ -1,9 +1,8 @@
 // The list of a box (document 01, "What can be asked"). It relies on `codes` for the crossing to unsigned numbers.
 #![tactic(auto)]
 
-ghost use Rattle.std.specs.Prelude.{◌≡◌, ◌≤◌, length};
+ghost use Rattle.std.specs.Prelude.{◌≡◌};
 ghost use Rattle.meaning.specs.Lists.{numbers};
-ghost use Rattle.meaning.specs.Outcomes.{front};
 ghost use Rattle.boxes.specs.Box.{good_end, good_ends, box_vertices, BoxMade};
 
 use codes::{HIGHEST, LOWEST};
@@ -28,56 +27,24 @@ fn good_end(low: i16, high: i16) -> bool
 {
     let from = codes::lift(low);
     let to = codes::lift(high);
-    if from < LOWEST {
-        return false;
-    }
-    if HIGHEST <= from {
-        return false;
-    }
-    if to <= from {
-        return false;
-    }
-    to <= HIGHEST
+    LOWEST <= from && from < HIGHEST && from < to && to <= HIGHEST
 }
 
 // Whether all three axes may have these ends.
 fn good_ends(ends: [[i16; 2]; 3]) -> bool
     ensures { result ≡ good_ends ends }
 {
-    if !good_end(ends[0][0], ends[0][1]) {
-        return false;
-    }
-    if !good_end(ends[1][0], ends[1][1]) {
-        return false;
-    }
-    good_end(ends[2][0], ends[2][1])
+    ends.iter().all(|[low, high]| good_end(*low, *high))
 }
 
 // The numbers of the eight corners, in the order of a list.
 fn eight_corners(ends: [[i16; 2]; 3]) -> [i16; BOX_NUMBERS]
     ensures { result ≡ numbers (box_vertices ends) }
 {
-    let a = ends[0][0];
-    let aa = ends[0][1];
-    let b = ends[1][0];
-    let bb = ends[1][1];
-    let d = ends[2][0];
-    let dd = ends[2][1];
+    let [[a, aa], [b, bb], [d, dd]] = ends;
     [
         a, b, d, a, b, dd, a, bb, d, a, bb, dd, aa, b, d, aa, b, dd, aa, bb, d, aa, bb, dd,
     ]
-}
-
-// Copies a list to the front of another; everything behind it stays.
-fn copy_front(list: &[i16], out: &mut [i16])
-    requires { length list.now ≤ length out.old }
-    ensures { out.new ≡ front list.now out.old }
-{
-    let mut i = 0;
-    while i < list.len() {
-        out[i] = list[i];
-        i += 1;
-    }
 }
 
 // Makes the map of the box with these low and high ends on each axis.
@@ -90,7 +57,6 @@ pub fn make_box(ends: [[i16; 2]; 3], out: &mut [i16]) -> Boxed
     if out.len() < BOX_NUMBERS {
         return Boxed::NoRoom;
     }
-    let list = eight_corners(ends);
-    copy_front(&list, out);
+    out[..BOX_NUMBERS].copy_from_slice(&eight_corners(ends));
     Boxed::Done
 }

@@ -1,7 +1,6 @@
 -- Odd lines as numbers that occur an odd number of times: on a list in range, the working list of an axis has at each place the pair key
 -- of the vertex there, and a vertex is on an odd line exactly when its pair key occurs an odd number of times.
 --   Offsets          the offsets, in a vertex, of the two numbers that are left when an axis is left out
---   filled_none, filled_more     the working list, one place after the other
 --   pair_at_key       the two numbers at an axis's offsets, as one number, are the pair key
 --   filled_parted    a filled working list is one of keys in two parts
 --   keys_filled      a filled working list is the list of pair keys
@@ -9,17 +8,16 @@
 --   evenly_more, evenly_all     vertices that lie two by two on lines of the second shift: one pair more; all of them
 --   first_at_start   a vertex on an odd line at place 0
 --   first_of_three   the first vertex on an odd line of any axis is the least of the three
-use mathlib.Core.Path.{◌≡◌, refl, sym, ◌∙◌, ap, ap₂}
+use mathlib.Core.Path.{◌≡◌, refl, sym, ◌∙◌, ap, ap₂, subst}
 use mathlib.Core.Bool.{Bool, true, ◌&&◌, ◌||◌, or-true}
 use mathlib.Core.List.{List, [], ◌∷◌, map}
 use Prim.Native.Nat.{ℕ, zero, suc, ◌+◌, ◌*◌, min, ◌≤◌, ◌<◌}
 use native.Mathlib.Omega.{arith}
-use borrow.Author.Count.{below_more}
 use borrow.Author.Tests.{eqb-true}
 use lib.Dec.{eqb}
 use lib.IntN.{ℤ, pos}
-use lib.ListN.{length, get_or, take, set, length-map}
-use lib.Seq.{ext_get_or, get_or-set_same, get_or-set_other, get_or-take, length-take-le}
+use lib.ListN.{length, get_or, length-map}
+use lib.Seq.{ext_get_or}
 use Rattle.meaning.specs.Numbers.{Axis, focus, first as first_shift, second, Corner, corner, is_corner, steps}
 use Rattle.meaning.specs.Counting.{count, odd, first, All}
 use Rattle.meaning.specs.Lists.{vertices, on_line, odd_line}
@@ -56,27 +54,16 @@ at_places : (ns : List ℤ) (m n j k : ℕ) → m ≡ j → n ≡ k →
     steps (get_or ns m (pos 0)) * 2048 + steps (get_or ns n (pos 0)) ≡ steps (get_or ns j (pos 0)) * 2048 + steps (get_or ns k (pos 0))
 at_places ns m n j k e f = ap₂ (λ p q. steps (get_or ns p (pos 0)) * 2048 + steps (get_or ns q (pos 0))) e f
 
-module _ (ns : List ℤ) (a b : ℕ) where
-  pub filled_none : (keys : List ℕ) → Filled ns a b 0 keys
-  filled_none keys i h = absurd (omega arith)
-
-  pub filled_more : (i : ℕ) (keys : List ℕ) (v : ℕ) → i < length keys → Filled ns a b i keys → v ≡ pair_at ns a b i → Filled ns a b (i + 1) (set keys i v)
-  filled_more i keys v h f e =
-      below_more (λ k. get_or (set keys i v) k 0 ≡ pair_at ns a b k) i
-      (λ k l. get_or-set_other keys i k v 0 (omega arith) ∙ f k l)
-      (get_or-set_same keys i v 0 h ∙ e)
-
 -- the parts of a pair
 parts : (s t key : ℕ) → key ≡ s * 2048 + t → s ≤ 1024 → t ≤ 1024 → (high key < 1025) × (low key < 1025)
 parts s t key e f g = (omega arith, omega arith)
 
-pub filled_parted : (ns : List ℤ) (a b n : ℕ) (keys : List ℕ) → InRange ns → (a < 3) × (b < 3) → n ≡ length (vertices ns) → n ≤ length keys →
-    Filled ns a b (length (vertices ns)) keys → Parted (take n keys)
-filled_parted ns a b n keys r o is h f i l =
-    let within : i < n = omega (arith, length-take-le n keys h) in
+pub filled_parted : (ns : List ℤ) (a b : ℕ) (keys : List ℕ) → InRange ns → (a < 3) × (b < 3) → length keys ≡ length (vertices ns) →
+    Filled ns a b (length (vertices ns)) keys → Parted keys
+filled_parted ns a b keys r o h f i l =
     let inside : i < length (vertices ns) = omega arith in
-    parts (steps (get_or ns (3 * i + a) (pos 0))) (steps (get_or ns (3 * i + b) (pos 0))) (get_or (take n keys) i 0)
-    (get_or-take n keys i 0 within ∙ f i inside)
+    parts (steps (get_or ns (3 * i + a) (pos 0))) (steps (get_or ns (3 * i + b) (pos 0))) (get_or keys i 0)
+    (f i inside)
     (steps_in ns i a r inside o.0)
     (steps_in ns i b r inside o.1)
 
@@ -86,17 +73,15 @@ pair_at_key first_shift ns a b i o = at_places ns (3 * i + a) (3 * i + b) (3 * i
 pair_at_key second ns a b i o = at_places ns (3 * i + a) (3 * i + b) (3 * i) (3 * i + 1) (omega arith) (omega arith)
 
 module _ (axis : Axis) (ns : List ℤ) (a b : ℕ) (o : Offsets axis a b) where
-  pub keys_filled : (keys : List ℕ) → length (vertices ns) ≤ length keys → Filled ns a b (length (vertices ns)) keys →
-      take (length (vertices ns)) keys ≡ map (pair_key axis) (vertices ns)
+  pub keys_filled : (keys : List ℕ) → length keys ≡ length (vertices ns) → Filled ns a b (length (vertices ns)) keys →
+      keys ≡ map (pair_key axis) (vertices ns)
   keys_filled keys h f =
-      let n = length (vertices ns) in
-      ext_get_or 0 (take n keys) (map (pair_key axis) (vertices ns))
-      (length-take-le n keys h ∙ sym (length-map (vertices ns) (pair_key axis)))
-      (λ i l. at_place i (omega (arith, length-take-le n keys h)))
+      ext_get_or 0 keys (map (pair_key axis) (vertices ns))
+      (h ∙ sym (length-map (vertices ns) (pair_key axis)))
+      (λ i l. at_place i (omega arith))
     where
-      at_place : (i : ℕ) → i < length (vertices ns) → get_or (take (length (vertices ns)) keys) i 0 ≡ get_or (map (pair_key axis) (vertices ns)) i 0
+      at_place : (i : ℕ) → i < length (vertices ns) → get_or keys i 0 ≡ get_or (map (pair_key axis) (vertices ns)) i 0
       at_place i l =
-          get_or-take (length (vertices ns)) keys i 0 l ∙
           f i l ∙
           pair_at_key axis ns a b i o ∙
           ap (pair_key axis) (sym (at_vertices ns i l)) ∙
@@ -143,11 +128,13 @@ module _ (ns : List ℤ) where
       ap (pair_key second) (at_vertices ns i h) ∙
       sym (pair_at_key second ns 0 1 i (refl, refl))
 
-  pub evenly_more : (good : Bool) (i x y : ℕ) → i + 1 < length (vertices ns) → x ≡ pair_at ns 0 1 i → y ≡ pair_at ns 0 1 (i + 1) →
-      (good ≡ true → Evenly (line_keys ns) i) → (good && eqb x y) ≡ true → Evenly (line_keys ns) (i + 2)
+  pub evenly_more : (good : Bool) (i x y : ℕ) → 2 * i + 1 < length (vertices ns) → x ≡ pair_at ns 0 1 (2 * i) → y ≡ pair_at ns 0 1 (2 * i + 1) →
+      (good ≡ true → Evenly (line_keys ns) (2 * i)) → (good && eqb x y) ≡ true → Evenly (line_keys ns) (2 * (i + 1))
   evenly_more good i x y h ex ey even t =
-      paired_more (line_keys ns) i (omega (arith, long))
-      (at_key i (omega arith) ∙ sym ex ∙ eqb-true x y (and_right good (eqb x y) t) ∙ ey ∙ sym (at_key (i + 1) h)) (even (and_left good (eqb x y) t))
+      subst (λ (n : ℕ). Evenly (line_keys ns) n) (omega arith)
+      (paired_more (line_keys ns) (2 * i) (omega (arith, long))
+      (at_key (2 * i) (omega arith) ∙ sym ex ∙ eqb-true x y (and_right good (eqb x y) t) ∙ ey ∙ sym (at_key (2 * i + 1) h))
+      (even (and_left good (eqb x y) t)))
 
   pub evenly_all : InRange ns → (i : ℕ) → i ≡ length (vertices ns) → Evenly (line_keys ns) i → length (vertices ns) ≡ first_on second (vertices ns)
   evenly_all r i e even =

@@ -2,7 +2,6 @@
 --   length_vertices   as many as a third of the numbers
 --   at_vertices       the vertex at a place is the corner of the numbers 3i, 3i + 1 and 3i + 2
 --   outside_at_lem, falls_at_lem, falls_key     the tests of the verdict, at a place
---   at_number         each of those places is within the list
 --   numbers_range               a list of corner numbers is in range
 --   number_in, steps_in         each number of a list in range is a corner number, with at most 1024 steps
 --   all_by            every member of a list, by its places
@@ -62,9 +61,6 @@ falls_key ns (suc i) r h l =
     falls_at_lem ns i l ∙
     ap not (below_key (corner_at ns i) (corner_at ns (suc i)) (r i (omega arith)) (r (suc i) l)) ∙
     ap (λ k. not (ltb (key_of (corner_at ns k)) (key_of (corner_at ns (suc i))))) (omega arith)
-
-pub at_number : (ns : List ℤ) (i a : ℕ) → i < length (vertices ns) → a < 3 → 3 * i + a < length ns
-at_number ns i a h k = omega (arith, length_vertices ns)
 
 pub numbers_range : (ns : List ℤ) → AllNumbers ns → InRange ns
 numbers_range ns all i h =

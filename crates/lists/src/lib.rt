@@ -18,16 +18,12 @@ const NUMBERS: usize = 3;
 // The most vertices for which the working array is a small one.
 const SMALL: usize = 32;
 
-// Whether the number at place i is a corner number.
-fn number_at(list: &[i16], i: usize) -> bool
-    requires { i < length list.now }
-    ensures { result ≡ is_number (get_or list.now i (pos 0)) }
+// Whether a number is a corner number.
+fn is_number(x: i16) -> bool
+    ensures { result ≡ is_number x }
 {
-    let u = codes::lift_at(list, i);
-    if u < LOWEST {
-        return false;
-    }
-    u <= HIGHEST
+    let u = codes::lift(x);
+    LOWEST <= u && u <= HIGHEST
 }
 
 // Whether vertex i is a corner.
@@ -35,25 +31,17 @@ fn corner_at(list: &[i16], i: usize) -> bool
     requires { 3 * i + 2 < length list.now }
     ensures { result ≡ is_corner (corner_at list.now i) }
 {
-    if !number_at(list, NUMBERS * i) {
-        return false;
-    }
-    if !number_at(list, NUMBERS * i + 1) {
-        return false;
-    }
-    number_at(list, NUMBERS * i + 2)
+    let at = NUMBERS * i;
+    is_number(list[at]) && is_number(list[at + 1]) && is_number(list[at + 2])
 }
 
 // Whether every number is a corner number. No early end: several are tested at once.
 fn all_numbers(list: &[i16]) -> bool
     ensures { result ≡ true → AllNumbers list.now }
 {
-    let n = list.len();
     let mut good = true;
-    let mut i = 0;
-    while i < n {
-        good &= number_at(list, i);
-        i += 1;
+    for x in list {
+        good &= is_number(*x);
     }
     good
 }
@@ -66,12 +54,10 @@ fn first_outside(list: &[i16]) -> usize
     if all_numbers(list) {
         return n;
     }
-    let mut place = 0;
-    while place < n {
+    for place in 0..n {
         if !corner_at(list, place) {
             return place;
         }
-        place += 1;
     }
     n
 }
@@ -87,12 +73,10 @@ fn all_rise(list: &[i16]) -> bool
     }
     let mut last = codes::key_at(list, 0);
     let mut good = true;
-    let mut i = 1;
-    while i < n {
+    for i in 1..n {
         let key = codes::key_at(list, i);
         good &= last < key;
         last = key;
-        i += 1;
     }
     good
 }
@@ -106,12 +90,10 @@ fn first_falling(list: &[i16]) -> usize
     if all_rise(list) {
         return n;
     }
-    let mut i = 1;
-    while i < n {
+    for i in 1..n {
         if codes::key_at(list, i) <= codes::key_at(list, i - 1) {
             return i;
         }
-        i += 1;
     }
     n
 }
@@ -132,14 +114,11 @@ fn pair_at(list: &[i16], i: usize, a: usize, b: usize) -> u32
 fn fill(list: &[i16], a: usize, b: usize, keys: &mut [u32])
     requires in_range { InRange list.now }
     requires offsets { (a < 3) × (b < 3) }
-    requires list_in_bounds { length (vertices list.now) ≤ length keys.old }
+    requires one_each { length keys.old ≡ length (vertices list.now) }
     ensures { Filled list.now a b (length (vertices list.now)) keys.new }
 {
-    let n = list.len() / NUMBERS;
-    let mut i = 0;
-    while i < n {
-        keys[i] = pair_at(list, i, a, b);
-        i += 1;
+    for (i, key) in keys.iter_mut().enumerate() {
+        *key = pair_at(list, i, a, b);
     }
 }
 
@@ -150,12 +129,10 @@ fn in_pairs(list: &[i16]) -> bool
 {
     let n = list.len() / NUMBERS;
     let mut good = true;
-    let mut i = 0;
-    while i + 1 < n {
-        good &= pair_at(list, i, 0, 1) == pair_at(list, i + 1, 0, 1);
-        i += 2;
+    for i in 0..n / 2 {
+        good &= pair_at(list, 2 * i, 0, 1) == pair_at(list, 2 * i + 1, 0, 1);
     }
-    good & (i == n)
+    good & (n % 2 == 0)
 }
 
 // The first vertex whose numbers at offsets a and b are those of an odd number of vertices, or the count of vertices.
@@ -166,9 +143,9 @@ fn first_odd_pair(list: &[i16], a: usize, b: usize, keys: &mut [u32]) -> usize
     requires list_len_bound { length (vertices list.now) ≤ most_vertices }
     ensures { (axis : Axis) → Offsets axis a b → result ≡ first_on axis (vertices list.now) }
 {
-    let n = list.len() / NUMBERS;
+    let keys = &mut keys[..list.len() / NUMBERS];
     fill(list, a, b, keys);
-    lines::first_odd(&keys[..n])
+    lines::first_odd(keys)
 }
 
 // The first vertex on an odd line of the second shift, or the count of vertices; keys is room to work in.
@@ -200,26 +177,17 @@ fn first_with_room(list: &[i16], keys: &mut [u32]) -> usize
         return 0;
     }
     let along_first = first_odd_pair(list, 0, 2, keys);
-    codes::lesser(along_focus, codes::lesser(along_first, along_second))
+    along_focus.min(along_first.min(along_second))
 }
 
-// The same with room of its own for few vertices.
-fn first_of_few(list: &[i16]) -> usize
+// The same with room of its own for so many vertices.
+fn first_of<const ROOM: usize>(list: &[i16]) -> usize
     requires in_range { InRange list.now }
-    requires list_len_bound { length (vertices list.now) ≤ 32 }
+    requires room { length (vertices list.now) ≤ ROOM }
+    requires room_bound { ROOM ≤ most_vertices }
     ensures { result ≡ first (on_odd_line_at (vertices list.now)) (length (vertices list.now)) }
 {
-    let mut keys = [0u32; SMALL];
-    first_with_room(list, &mut keys)
-}
-
-// The same with room of its own for as many vertices as a list may have.
-fn first_of_many(list: &[i16]) -> usize
-    requires in_range { InRange list.now }
-    requires list_len_bound { length (vertices list.now) ≤ most_vertices }
-    ensures { result ≡ first (on_odd_line_at (vertices list.now)) (length (vertices list.now)) }
-{
-    let mut keys = [0u32; MOST_VERTICES];
+    let mut keys = [0u32; ROOM];
     first_with_room(list, &mut keys)
 }
 
@@ -230,9 +198,9 @@ fn first_on_odd_line(list: &[i16]) -> usize
     ensures { result ≡ first (on_odd_line_at (vertices list.now)) (length (vertices list.now)) }
 {
     if list.len() <= NUMBERS * SMALL {
-        return first_of_few(list);
+        return first_of::<SMALL>(list);
     }
-    first_of_many(list)
+    first_of::<MOST_VERTICES>(list)
 }
 
 // What document 01 says of a list: that it is a travel map, or why not.

@@ -35,7 +35,7 @@ next : (c : After-key_at-in-loop-i) →
     falls_at (vertices c.args.list.now) c.loop-i.i ≡ not
     (ltb c.key_at-in-loop-i.result c.key_at.result)
 next c =
-    falls_key c.args.list.now c.loop-i.i c.requires c.loop-i.invariant.0 (place c.before.before) ∙
+    falls_key c.args.list.now c.loop-i.i c.requires (omega arith) (place c.before.before) ∙
     ap₂ (λ a b. not (ltb a b)) (sym c.key_at-in-loop-i.ensures) (sym c.key_at.ensures)
 
 pub key_at-requires-in-loop-i : goal.key_at-requires-in-loop-i
@@ -48,17 +48,15 @@ key_at-requires-in-loop-i c =
 pub returns-then-key_at : goal.returns-then-key_at
 returns-then-key_at c =
     let l = c.args.list.now in
-    first_stop (falls_at (vertices l)) (length (vertices l)) c.loop-i.i (place (goal.at.returns-then-key_at c).In-loop-i) c.loop-i.invariant.1
+    first_stop (falls_at (vertices l)) (length (vertices l)) c.loop-i.i (place (goal.at.returns-then-key_at c).In-loop-i) c.loop-i.invariant
     (next (goal.at.returns-then-key_at c).After-key_at-in-loop-i ∙ ap not (le-ltb c.key_at-in-loop-i.result c.key_at.result c.if-key_at.true))
 
 pub loop-i-preserved : goal.loop-i-preserved
 loop-i-preserved c =
-    let l = c.args.list.now in (
-      omega arith,
-      below_more (λ j. falls_at (vertices l) j ≡ false) c.loop-i.i c.loop-i.invariant.1
-          (next (goal.at.loop-i-preserved c).After-key_at-in-loop-i ∙ ap not (lt-ltb c.key_at-in-loop-i.result c.key_at.result c.if-key_at.false)),
-    )
+    let l = c.args.list.now in
+    below_more (λ j. falls_at (vertices l) j ≡ false) c.loop-i.i c.loop-i.invariant
+    (next (goal.at.loop-i-preserved c).After-key_at-in-loop-i ∙ ap not (lt-ltb c.key_at-in-loop-i.result c.key_at.result c.if-key_at.false))
 
 pub returns : goal.returns
 returns c = let l = c.args.list.now in
-    first_none (falls_at (vertices l)) (length (vertices l)) (sym (length_vertices l)) (λ k h. c.loop-i.invariant.1 k (omega (arith, c.loop-i-test.false)))
+    first_none (falls_at (vertices l)) (length (vertices l)) (sym (length_vertices l)) (λ k h. c.loop-i.invariant k (omega (arith, c.loop-i-test.false)))

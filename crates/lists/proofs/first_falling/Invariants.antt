@@ -1,13 +1,10 @@
 -- `lists::first_falling` meets its contract. The loop's invariant: every vertex passed stands above the one before it.
 use mathlib.Core.Path.{◌≡◌}
 use mathlib.Core.Bool.{false}
-use Prim.Native.Nat.{ℕ, ◌-◌, ◌<◌}
+use Prim.Native.Nat.{ℕ, ◌<◌}
 use Rattle.meaning.specs.Lists.{vertices}
 use Rattle.meaning.specs.Verdicts.{falls_at}
 use Rattle.lists.proofs.first_falling.Given as goal
 
 abbrev pub invariant-loop-i : goal.invariant-loop-i
-invariant-loop-i l = (0 < l.i) × ((k : ℕ) → k < l.i → falls_at (vertices l.list) k ≡ false)
-
-abbrev pub decreases-loop-i : goal.decreases-loop-i
-decreases-loop-i l = l.n - l.i
+invariant-loop-i l = (k : ℕ) → k < l.i → falls_at (vertices l.list) k ≡ false

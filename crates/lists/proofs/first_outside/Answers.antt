@@ -31,18 +31,16 @@ returns-then-not-corner_at c =
     let l = c.args.list.now in
     let i = c.loop-place.place in
     let h = within (goal.at.returns-then-not-corner_at c).In-loop-place in
-    first_stop (outside_at (vertices l)) (length (vertices l)) i h c.loop-place.invariant.1
+    first_stop (outside_at (vertices l)) (length (vertices l)) i h c.loop-place.invariant
     (outside_at_lem l i h ∙ ap not (sym c.corner_at.ensures ∙ c.if-not-corner_at.true))
 
 pub loop-place-preserved : goal.loop-place-preserved
 loop-place-preserved c =
     let l = c.args.list.now in
-    let i = c.loop-place.place in (
-      omega arith,
-      below_more (λ j. outside_at (vertices l) j ≡ false) i c.loop-place.invariant.1
-          (outside_at_lem l i (within (goal.at.loop-place-preserved c).In-loop-place) ∙ ap not (sym c.corner_at.ensures ∙ c.if-not-corner_at.false)),
-    )
+    let i = c.loop-place.place in
+    below_more (λ j. outside_at (vertices l) j ≡ false) i c.loop-place.invariant
+    (outside_at_lem l i (within (goal.at.loop-place-preserved c).In-loop-place) ∙ ap not (sym c.corner_at.ensures ∙ c.if-not-corner_at.false))
 
 pub returns : goal.returns
 returns c = let l = c.args.list.now in
-    first_none (outside_at (vertices l)) (length (vertices l)) (sym (length_vertices l)) (λ k h. c.loop-place.invariant.1 k (omega arith))
+    first_none (outside_at (vertices l)) (length (vertices l)) (sym (length_vertices l)) (λ k h. c.loop-place.invariant k (omega arith))

@@ -1,13 +1,10 @@
 -- `lists::first_outside` meets its contract. The loop's invariant: every vertex passed is a corner.
 use mathlib.Core.Path.{◌≡◌}
 use mathlib.Core.Bool.{false}
-use Prim.Native.Nat.{ℕ, ◌-◌, ◌<◌, ◌≤◌}
+use Prim.Native.Nat.{ℕ, ◌<◌}
 use Rattle.meaning.specs.Lists.{vertices}
 use Rattle.meaning.specs.Verdicts.{outside_at}
 use Rattle.lists.proofs.first_outside.Given as goal
 
 abbrev pub invariant-loop-place : goal.invariant-loop-place
-invariant-loop-place l = (l.place ≤ l.n) × ((k : ℕ) → k < l.place → outside_at (vertices l.list) k ≡ false)
-
-abbrev pub decreases-loop-place : goal.decreases-loop-place
-decreases-loop-place l = l.n - l.place
+invariant-loop-place l = (k : ℕ) → k < l.place → outside_at (vertices l.list) k ≡ false

@@ -31,7 +31,7 @@ returns-then-along_focus-eq0 c =
 
 pub returns : goal.returns
 returns c =
-    c.lesser-2.ensures ∙
-    ap (min c.first_odd_pair-along_focus.result) c.lesser.ensures ∙
+    c.min-2.ensures ∙
+    ap (min c.first_odd_pair-along_focus.result) c.min.ensures ∙
     first_of_three (corners (goal.at.returns c).Start) c.first_odd_pair-along_focus.result c.first_odd_pair-along_first.result c.first_along_second-along_second.result
     (along_focus (goal.at.returns c).After-first_odd_pair-along_focus) (along_first (goal.at.returns c).After-first_odd_pair-along_first) c.first_along_second-along_second.ensures
