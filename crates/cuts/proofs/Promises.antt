@@ -3,6 +3,7 @@
 --   number_back                             the steps of a number give it back
 --   outcome_bad, outcome_refused, outcome_next     the order of refusals: a bad axis or number; then the check's; then what follows
 --   outcome_done                            what is done was asked of an axis and a number in range, and of a list that passed the check
+--   is_map, few_vertices_lem                a list that the check calls valid is a travel map, of at most 1,024 vertices
 --   section_bad, section_refused, section_made     the cases of section
 --   split_bad, split_refused, split_made           the cases of split
 --   section_once, split_once                the values tell the answers apart
@@ -17,15 +18,23 @@ use native.Mathlib.Omega.{arith}
 use borrow.Author.Tests.{le-leb, lt-leb, leb-true, ne_eqb}
 use lib.Dec.{leb, eqb}
 use lib.IntN.{ℤ}
+use lib.ListN.{length}
+use mir.Syntax.{w16}
+use mir.Val.{SFits, to_z, of_z}
+use mir.ValLaws.{to_z-of_z}
 use Rattle.meaning.specs.Numbers.{Axis, focus, first, second, number, steps, is_code, is_number}
+use Rattle.meaning.specs.Lists.{vertices, Valid, most_vertices}
 use Rattle.meaning.specs.Verdicts.{verdict, passes}
 use Rattle.meaning.specs.Operations.{axis_of, pair_numbers}
 use Rattle.meaning.specs.Outcomes.{Values, Outcome, Nothing, nothing, refused, bad_number, kept, checked, per_pair, placed}
 use Rattle.meaning.specs.declared.Verdict.{Verdict}
 use Rattle.meaning.specs.declared.Verdict.TheVariants.{Valid as Passed, NotTriples, TooMany, OutOfRange, NotRising, OddLine}
-use Rattle.meaning.proofs.Integers.{and_left, and_right}
+use Rattle.meaning.proofs.Integers.{not_yes, and_left, and_right}
+use Rattle.meaning.proofs.Checked.{passed, verdict_valid}
 use Rattle.meaning.proofs.Outcomes.{verdict_by, verdict_back, checked_next, checked_refused}
 use Rattle.codes.specs.Lift.{lifted}
+use Rattle.lists.specs.Check.{Checked}
+use Rattle.lists.proofs.Verdicts.{checked_verdict}
 use Rattle.codes.proofs.Laws.{is_code_lifted, is_number_lifted, lifted_number, number_steps}
 use Rattle.keys.specs.Parts.{axis_at}
 use Rattle.cuts.specs.declared.Sectioned.{Sectioned}
@@ -117,65 +126,90 @@ module _ {Left : Type 0} (ns : List ℤ) (n : ℕ) (b : Bool) (left : Left) (nex
       let passed = checked_done left (verdict ns) (next axis) (ap (λ o. o.values.number) (sym at) ∙ e) in
       (axis, is, good, passed, at ∙ checked_next 1 (verdict ns) (kept nothing left) (next axis) passed)
 
+-- ---- what is known of a call before anything is made
+
+-- a number that was asked, as it was passed, and its crossing
+crossed_lem : (z : ℤ) → SFits w16 z → {u : ℕ} → u ≡ lifted (to_z w16 (of_z w16 z)) → u ≡ lifted z
+crossed_lem z fits e = e ∙ ap lifted (to_z-of_z w16 z fits)
+
+-- a list by what the check answers
+module _ (ns : List ℤ) (v : Verdict) (checked : Checked ns v) where
+  told : v ≡ Passed → verdict ns ≡ Passed
+  told is = sym (checked_verdict ns v checked) ∙ is
+
+  pub is_map : v ≡ Passed → Valid (vertices ns)
+  is_map is = ((verdict_valid ns).0 (told is)).1
+
+  pub few_vertices_lem : v ≡ Passed → length (vertices ns) ≤ 1024
+  unfolding most_vertices
+  few_vertices_lem is = (is_map is).few
+
+  is_refused : (v ≡ Passed → ⊥) → passes (verdict ns) ≡ false
+  is_refused h = ap passes (sym (checked_verdict ns v checked)) ∙ not_yes (passes v) (λ e. h (passed v e))
+
 -- ---- the promise of section, case by case
 
 -- u is the code that was asked, after the crossing
-module _ (ns : List ℤ) (n : ℕ) (k : ℤ) (before : List ℤ) (u : ℕ) (crossed : u ≡ lifted k) where
+module _ (ns : List ℤ) (n : ℕ) (k : ℤ) (before : List ℤ) (fits : SFits w16 k) {u : ℕ} (lift : u ≡ lifted (to_z w16 (of_z w16 k)))
+    {good : Bool} (range : good ≡ in_range n u 33279) where
   abbrev made : Axis → Outcome Nothing (List ℤ)
   made axis = placed per_pair pair_numbers (section_pairs axis k ns) before
 
-  pub section_bad : in_range n u 33279 ≡ false → SectionPromise ns n k before section.BadRequest before
+  in_range_lem : (leb n 2 && is_code k) ≡ good
+  in_range_lem = ap (leb n 2 &&◌) (is_code_lem k u (crossed_lem k fits lift)) ∙ sym range
+
+  pub section_bad : good ≡ false → SectionPromise ns n k before section.BadRequest before
   unfolding SectionPromise
-  section_bad e = sym (outcome_bad ns n (is_code k) before made (ap (leb n 2 &&◌) (is_code_lem k u crossed) ∙ e))
+  section_bad e = sym (outcome_bad ns n (is_code k) before made (in_range_lem ∙ e))
 
-  module _ (good : in_range n u 33279 ≡ true) where
-    in_range_lem : (leb n 2 && is_code k) ≡ true
-    in_range_lem = ap (leb n 2 &&◌) (is_code_lem k u crossed) ∙ good
-
-    pub section_refused : (v : Verdict) → v ≡ verdict ns → passes v ≡ false → SectionPromise ns n k before (section.Refused v) before
+  module _ (is : good ≡ true) (v : Verdict) (checked : Checked ns v) where
+    pub section_refused : (v ≡ Passed → ⊥) → SectionPromise ns n k before (section.Refused v) before
     unfolding SectionPromise
-    section_refused v e h =
-        ap (λ w. section_says (section.Refused w) before) e ∙
-        sym (outcome_refused ns n (is_code k) before made in_range_lem (ap passes (sym e) ∙ h))
+    section_refused h =
+        ap (λ w. section_says (section.Refused w) before) (checked_verdict ns v checked) ∙
+        sym (outcome_refused ns n (is_code k) before made (in_range_lem ∙ is) (is_refused ns v checked h))
 
-    pub section_made : verdict ns ≡ Passed → (r : Sectioned) (after : List ℤ)
+    pub section_made : v ≡ Passed → (r : Sectioned) (after : List ℤ)
         → section_says r after ≡ section_by_steps ns n (u - 32256) before → SectionPromise ns n k before r after
     unfolding SectionPromise
-    section_made v r after e =
-        let back = number_back k u crossed (range_low n u 33279 good) (omega (arith, range_high n u 33279 good)) in
+    section_made p r after e =
+        let at = sym range ∙ is in
+        let back = number_back k u (crossed_lem k fits lift) (range_low n u 33279 at) (omega (arith, range_high n u 33279 at)) in
         e ∙
         ap (λ z. placed per_pair pair_numbers (section_pairs (axis_at n) z ns) before) back ∙
-        sym (outcome_next ns n (is_code k) before made in_range_lem (ap passes v))
+        sym (outcome_next ns n (is_code k) before made (in_range_lem ∙ is) (ap passes (told ns v checked p)))
 
 -- ---- the promise of split, case by case
 
 -- u is the number that was asked, after the crossing
-module _ (ns : List ℤ) (n : ℕ) (p : ℤ) (low high : List ℤ) (u : ℕ) (crossed : u ≡ lifted p) where
+module _ (ns : List ℤ) (n : ℕ) (p : ℤ) (low high : List ℤ) (fits : SFits w16 p) {u : ℕ} (lift : u ≡ lifted (to_z w16 (of_z w16 p)))
+    {good : Bool} (range : good ≡ in_range n u 33280) where
   abbrev made_both : Axis → Outcome Nothing Halves
   made_both axis = placed_halves (lower_list axis p ns) (upper_list axis p ns) low high
 
-  pub split_bad : in_range n u 33280 ≡ false → SplitPromise ns n p low high split.BadRequest low high
+  in_range' : (leb n 2 && is_number p) ≡ good
+  in_range' = ap (leb n 2 &&◌) (is_number_lem p u (crossed_lem p fits lift)) ∙ sym range
+
+  pub split_bad : good ≡ false → SplitPromise ns n p low high split.BadRequest low high
   unfolding SplitPromise
-  split_bad e = sym (outcome_bad ns n (is_number p) (halves low high) made_both (ap (leb n 2 &&◌) (is_number_lem p u crossed) ∙ e))
+  split_bad e = sym (outcome_bad ns n (is_number p) (halves low high) made_both (in_range' ∙ e))
 
-  module _ (good : in_range n u 33280 ≡ true) where
-    in_range' : (leb n 2 && is_number p) ≡ true
-    in_range' = ap (leb n 2 &&◌) (is_number_lem p u crossed) ∙ good
-
-    pub split_refused : (v : Verdict) → v ≡ verdict ns → passes v ≡ false → SplitPromise ns n p low high (split.Refused v) low high
+  module _ (is : good ≡ true) (v : Verdict) (checked : Checked ns v) where
+    pub split_refused : (v ≡ Passed → ⊥) → SplitPromise ns n p low high (split.Refused v) low high
     unfolding SplitPromise
-    split_refused v e h =
-        ap (λ w. split_says (split.Refused w) low high) e ∙
-        sym (outcome_refused ns n (is_number p) (halves low high) made_both in_range' (ap passes (sym e) ∙ h))
+    split_refused h =
+        ap (λ w. split_says (split.Refused w) low high) (checked_verdict ns v checked) ∙
+        sym (outcome_refused ns n (is_number p) (halves low high) made_both (in_range' ∙ is) (is_refused ns v checked h))
 
-    pub split_made : verdict ns ≡ Passed → (r : Halved) (low' high' : List ℤ)
+    pub split_made : v ≡ Passed → (r : Halved) (low' high' : List ℤ)
         → split_says r low' high' ≡ split_by_steps ns n (u - 32256) low high → SplitPromise ns n p low high r low' high'
     unfolding SplitPromise
-    split_made v r low' high' e =
-        let back = number_back p u crossed (range_low n u 33280 good) (range_high n u 33280 good) in
+    split_made q r low' high' e =
+        let at = sym range ∙ is in
+        let back = number_back p u (crossed_lem p fits lift) (range_low n u 33280 at) (range_high n u 33280 at) in
         e ∙
         ap (λ z. placed_halves (lower_list (axis_at n) z ns) (upper_list (axis_at n) z ns) low high) back ∙
-        sym (outcome_next ns n (is_number p) (halves low high) made_both in_range' (ap passes v))
+        sym (outcome_next ns n (is_number p) (halves low high) made_both (in_range' ∙ is) (ap passes (told ns v checked q)))
 
 -- ---- the values tell the answers apart
 

@@ -1,5 +1,4 @@
 -- Rising lists of keys and the corners that they stand for.
---   last_axis                            the axis of a number that is neither 0 nor 1
 --   part_number, part_ok                 a key's part on an axis is that of its corner, and at most 1024 where the key is in range
 --   keys_ok, keys_back, keys_rise        of a list of corners: its keys are in range and give the corners back; they rise where it rises
 --   corners_of, rising_of                of keys in range: their corners are corners; they rise where the keys rise
@@ -10,7 +9,7 @@
 use mathlib.Core.Path.{◌≡◌, refl, sym, ◌∙◌, ap, ap₂, subst}
 use mathlib.Core.Bool.{Bool, true, false, ◌&&◌, true≢false}
 use mathlib.Core.List.{List, [], ◌∷◌, map}
-use Prim.Native.Nat.{ℕ, zero, suc, ◌≤◌}
+use Prim.Native.Nat.{ℕ, suc, ◌≤◌}
 use native.Mathlib.Omega.{arith}
 use borrow.Author.Tests.{ltb-true, lt-ltb}
 use lib.Dec.{ltb}
@@ -28,17 +27,12 @@ use Rattle.codes.specs.Keys.{key_of, of_key, plane_of, rest_of, line_of, last_of
 use Rattle.codes.proofs.Laws.{number_le}
 use Rattle.codes.proofs.Keys.{within, key_plane, key_line, key_last, of_key_key_of, key_of_of_key, corner_of_key, below_key}
 use Rattle.rising.specs.Merged.{From}
-use Rattle.keys.specs.Parts.{KeyOk, axis_at, part_on, key_fits}
+use Rattle.keys.specs.Parts.{KeyOk, part_on, key_fits}
 
 abbrev pub Corners : List Corner → Type 0
 Corners l = All (λ v. is_corner v ≡ true) l
 
 -- ---- parts on an axis
-
-pub last_axis : (n : ℕ) → (n ≡ 0 → ⊥) → (n ≡ 1 → ⊥) → axis_at n ≡ second
-last_axis zero h k = absurd (h refl)
-last_axis (suc zero) h k = absurd (k refl)
-last_axis (suc (suc n)) h k = refl
 
 pub part_number : (axis : Axis) (k : ℕ) → number_on axis (of_key k) ≡ number (part_on axis k)
 part_number focus k = refl

@@ -2,13 +2,14 @@
 // signed numbers and unsigned ones and for the key of a vertex.
 #![tactic(auto)]
 
-ghost use Rattle.std.specs.Prelude.{◌≡◌, true, ◌++◌, map, ◌*◌, ◌≤◌, length, drop};
+ghost use Rattle.std.specs.Prelude.{◌≡◌, true, List, [], ◌∷◌, ◌++◌, map, ℕ, ◌*◌, ℤ, ◌≤◌, length, drop};
 ghost use Rattle.meaning.specs.Numbers.{is_corner, number};
 ghost use Rattle.meaning.specs.Counting.{All};
 ghost use Rattle.meaning.specs.Lists.{vertices, numbers};
 ghost use Rattle.meaning.specs.Operations.{pair_numbers};
 ghost use Rattle.codes.specs.Keys.{key_of, of_key};
 ghost use Rattle.keys.specs.Parts.{KeyOk, PairOk, pair_of_key, axis_at, part_on};
+ghost use Rattle.keys.specs.Spelled.{Writes, Spells};
 
 use codes::{LINE, LOWEST, PLANE};
 
@@ -21,6 +22,9 @@ pub const SECOND_SHIFT: u32 = 2;
 
 // The numbers of a vertex.
 const NUMBERS: usize = 3;
+
+// The numbers of a pair.
+const PAIR: usize = 2;
 
 // How many steps above the lowest a key's corner lies on an axis.
 pub fn part_on(key: u32, axis: u32) -> u32
@@ -43,12 +47,10 @@ pub fn read(list: &[i16], out: &mut [u32]) -> usize
         × (out.new ≡ map key_of (vertices list.now) ++ drop result out.old) }
 {
     let n = list.len() / NUMBERS;
-    let mut i = 0;
-    while i < n {
+    for i in 0..n {
         out[i] = codes::key_at(list, i);
-        i += 1;
     }
-    i
+    n
 }
 
 // The corner number that lies so many steps above the lowest.
@@ -59,25 +61,53 @@ pub fn number_of(steps: u32) -> i16
     codes::lower(steps as u16 + LOWEST)
 }
 
+// Writes the three numbers of a key's corner.
+fn write_corner(key: u32, out: &mut [i16])
+    requires key_ok { KeyOk key }
+    requires room { length out.old ≡ 3 }
+    ensures { out.new ≡ numbers (of_key key ∷ []) }
+{
+    let rest = key % PLANE;
+    out.copy_from_slice(&[
+        number_of(key / PLANE),
+        number_of(rest / LINE),
+        number_of(rest % LINE),
+    ]);
+}
+
+// Writes the two numbers of a pair key's pair.
+fn write_pair(key: u32, out: &mut [i16])
+    requires key_ok { PairOk key }
+    requires room { length out.old ≡ 2 }
+    ensures { out.new ≡ pair_numbers (pair_of_key key ∷ []) }
+{
+    out.copy_from_slice(&[number_of(key / LINE), number_of(key % LINE)]);
+}
+
+// Writes so many numbers for each key, as one of them is written, to the front of out.
+fn write_each<const WIDTH: usize, F: Fn(u32, &mut [i16])>(
+    keys: &[u32],
+    out: &mut [i16],
+    write_one: F,
+)
+    requires all { All (Writes F.Fn write_one WIDTH) keys.now }
+    requires keys_in_bounds { WIDTH * length keys.now ≤ length out.old }
+    ensures { (spell : List ℕ → List ℤ) → Spells F.Fn write_one spell
+        → out.new ≡ spell keys.now ++ drop (WIDTH * length keys.now) out.old }
+{
+    for (i, key) in keys.iter().enumerate() {
+        let n = WIDTH * i;
+        write_one(*key, &mut out[n..n + WIDTH]);
+    }
+}
+
 // Writes the vertices of some keys, three numbers each, to the front of out.
 pub fn write(keys: &[u32], out: &mut [i16])
     requires all { All KeyOk keys.now }
     requires keys_in_bounds { 3 * length keys.now ≤ length out.old }
     ensures { out.new ≡ numbers (map of_key keys.now) ++ drop (3 * length keys.now) out.old }
 {
-    let mut i = 0;
-    let mut n = 0;
-    while i < keys.len() {
-        let key = keys[i];
-        let rest = key % PLANE;
-        out[n] = number_of(key / PLANE);
-        n += 1;
-        out[n] = number_of(rest / LINE);
-        n += 1;
-        out[n] = number_of(rest % LINE);
-        n += 1;
-        i += 1;
-    }
+    write_each::<NUMBERS, _>(keys, out, write_corner);
 }
 
 // Writes the pairs of some pair keys, two numbers each, to the front of out.
@@ -86,15 +116,5 @@ pub fn write_pairs(keys: &[u32], out: &mut [i16])
     requires keys_in_bounds { 2 * length keys.now ≤ length out.old }
     ensures { out.new ≡ pair_numbers (map pair_of_key keys.now) ++ drop (2 * length keys.now) out.old }
 {
-    let count = keys.len();
-    let mut i = 0;
-    let mut n = 0;
-    while i < count {
-        let key = keys[i];
-        out[n] = number_of(key / LINE);
-        n += 1;
-        out[n] = number_of(key % LINE);
-        n += 1;
-        i += 1;
-    }
+    write_each::<PAIR, _>(keys, out, write_pair);
 }

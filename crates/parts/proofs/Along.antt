@@ -1,6 +1,6 @@
 -- Keys along an axis and the corners that they stand for, for any axis.
 --   pair_pair_on, pair_on_ok               a key's pair key is that of its corner
---   raised_same, raised_ok, raised_corner     a raised key is that of the raised corner
+--   raised_ok, raised_corner             a raised key is that of the raised corner
 --   section_keys                         the pair keys at or below a cut permit the section
 --   upper_keys, lower_keys               the raised keys permit the upper half; with the whole they permit the lower half
 -- Assumes nothing.
@@ -25,7 +25,7 @@ use Rattle.codes.proofs.Laws.{number_le}
 use Rattle.keys.specs.Parts.{KeyOk, PairOk, pair_of_key, part_on, key_fits, pair_fits}
 use Rattle.keys.proofs.Corners.{Corners, part_number, keys_ok, keys_back, permitted_keys, permitted_corners}
 use Rattle.keys.proofs.Pairs.{permits_pairs}
-use Rattle.parts.specs.Axes.{pair_on, step_on, raised_key, pairs_below}
+use Rattle.parts.specs.Axes.{pair_on, raised_key, pairs_below}
 
 -- ---- parts and pairs
 
@@ -62,24 +62,7 @@ larger_number a p = go (leb a p) refl
     go true e = let is : a + (p - a) ≡ p = omega (arith, leb-true a p e) in ap number is ∙ sym (ap (λ b. cond b (number p) (number a)) (number_le a p ∙ e))
     go false e = let is : a + (p - a) ≡ a = omega (arith, leb-false a p e) in ap number is ∙ sym (ap (λ b. cond b (number p) (number a)) (number_le a p ∙ e))
 
-pub raised_same : (axis : Axis) (p k : ℕ) → p ≤ part_on axis k → k ≡ raised_key axis p k
-raised_same focus p k h = omega arith
-raised_same first p k h = omega arith
-raised_same second p k h = omega arith
-
-pub once : (k d : ℕ) → k + d ≡ k + d * 1
-once k d = omega arith
-
--- by the part that was read, on an axis that is known
-pub raised_by : (p k : ℕ) {a axis : Axis} → a ≡ axis → {part : ℕ} → part ≡ part_on a k → k + (p - part) * step_on axis ≡ raised_key a p k
-raised_by p k e f = λ i. k + (p - f i) * step_on (sym e i)
-
 module _ (p k : ℕ) (hp : p ≤ 1024) (h : KeyOk k) where
-  pub raised_fits : (axis : Axis) → raised_key axis p k < 4294967296
-  raised_fits focus = omega (arith, h.0)
-  raised_fits first = omega (arith, h.0, h.1.0)
-  raised_fits second = omega (arith, h.0, h.1.1)
-
   -- the parts of a raised key: the plane, and the place in it
   abbrev Parts : ℕ → ℕ → ℕ → Type 0
   Parts r plane rest = (plane_of r ≡ plane) × (rest_of r ≡ rest)

@@ -1,4 +1,3 @@
--- Laws of keys along an axis, of the loop over them, and of the lists that they stand for.
+-- Laws of keys along an axis, and of the lists that they stand for.
 pub mod Along
-pub mod Loops
 pub mod Made

@@ -1,8 +1,7 @@
 -- Keys that stand for the lists of a section and of the halves of a split.
 --   keys_of                        a list of keys at the front of a slice, as what it stands for
---   read_front, keys_few           the keys of a list's vertices, as they are read
+--   read_front                     the keys of a list's vertices, as they are read
 --   length_below, below_few        of the pair keys at or below a cut there are no more than keys
---   raised_front                   the raised keys, brought to order
 --   section_list, section_made     the pair keys of a section in order are those of the one list of its pairs
 --   upper_list_lem, upper_made, lower_list_lem, lower_made     the keys of the halves in order are those of their one lists
 -- Assumes nothing.
@@ -42,9 +41,6 @@ keys_of Ok of f h e = record { few = front_few f; good = subst (All Ok) (sym f.c
 pub read_front : (l : List Corner) (before : List ℕ) {now : List ℕ} {n : ℕ} → n ≡ length l → now ≡ map key_of l ++ drop n before → take n now ≡ map key_of l
 read_front l before {n = n} e f = ap (take n) f ∙ take_at (map key_of l) (drop n before) n (length-map l key_of ∙ sym e)
 
-pub keys_few : (l : List Corner) {read : List ℕ} (room : ℕ) → read ≡ map key_of l → length l ≤ room → length read ≤ room
-keys_few l room e h = omega (arith, ap length e, length-map l key_of)
-
 -- ---- what is made of them
 
 keep_length : (p : ℕ → Bool) (l : List ℕ) → length (keep p l) ≤ length l
@@ -63,14 +59,6 @@ length_below axis cut ks =
 pub below_few : (axis : Axis) (cut : ℕ) (read : List ℕ) {keys now : List ℕ} {n : ℕ} → Placed (pairs_below axis cut read) keys now n
     → length (take n now) ≤ length read
 below_few axis cut read p = omega (arith, ap length (placed_front p).contents, length_below axis cut read)
-
--- keys raised in another slice, of which the order stands in a third
-pub raised_front : (f : ℕ → ℕ) (ks upper : List ℕ) {now x : List ℕ} {m : ℕ} → now ≡ map f ks ++ drop (length ks) upper
-    → Front (norm (take (length ks) now)) x m → (r : List ℕ) → Front (norm (map f ks)) (x ++ r) m
-raised_front f ks upper {x = x} {m} e h r =
-    subst (λ (l : List ℕ). Front (norm l) (x ++ r) m)
-    (ap (take (length ks)) e ∙ take_at (map f ks) (drop (length ks) upper) (length ks) (length-map ks f))
-    (front_append h r)
 
 -- ---- the one lists
 

@@ -63,13 +63,10 @@ fn pairs_below(keys: &[u32], axis: u32, cut: u32, out: &mut [u32]) -> usize
     requires { length keys.now ≤ length out.old }
     ensures { Placed (pairs_below (axis_at axis) cut keys.now) out.old out.new result }
 {
-    let mut i = 0;
     let mut n = 0;
-    while i < keys.len() {
-        let key = keys[i];
-        i += 1;
-        if keys::part_on(key, axis) <= cut {
-            out[n] = pair_on(key, axis);
+    for key in keys {
+        if keys::part_on(*key, axis) <= cut {
+            out[n] = pair_on(*key, axis);
             n += 1;
         }
     }
@@ -83,10 +80,8 @@ fn raise_all(keys: &[u32], axis: u32, at: u32, out: &mut [u32])
     requires at_bound { at ≤ 1024 }
     ensures { out.new ≡ map (raised_key (axis_at axis) at) keys.now ++ drop (length keys.now) out.old }
 {
-    let mut i = 0;
-    while i < keys.len() {
-        out[i] = raised(keys[i], axis, at);
-        i += 1;
+    for (i, key) in keys.iter().enumerate() {
+        out[i] = raised(*key, axis, at);
     }
 }
 

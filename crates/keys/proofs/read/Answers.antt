@@ -8,4 +8,4 @@ pub loop-i-preserved : goal.loop-i-preserved
 loop-i-preserved c = rw c.key_at.ensures (reads_one _ _ _ _ c.loop-i.invariant (omega arith))
 
 pub returns : goal.returns
-returns c = reading_ends _ _ _ _ c.loop-i.invariant (omega arith)
+returns c = reading_ends _ _ _ _ c.loop-i.invariant (omega arith) (omega arith)
