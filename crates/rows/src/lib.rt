@@ -14,12 +14,10 @@ const OVERLAP: u32 = 2;
 
 const WITHOUT: u32 = 3;
 
-// The bits of a word, all of them, and the place of the last.
-pub const BITS: usize = 64;
+// The bits of a word, and the place of the last.
+pub const BITS: usize = u64::BITS as usize;
 
-const ALL: u64 = 18446744073709551615;
-
-const LAST: u32 = 63;
+const LAST: u32 = u64::BITS - 1;
 
 // What holds of 64 cells by the operation with that number: 1 union, 2 overlap, 3 first without second, else exclusive or.
 fn word(op: u32, x: u64, y: u64) -> u64
@@ -41,10 +39,8 @@ fn word(op: u32, x: u64, y: u64) -> u64
 fn changed(op: u32, x: u64, y: u64, u: u64, v: u64) -> u64
     ensures { (k : ℕ) → bit result k ≡ change op (bit x k) (bit y k) (bit u k) (bit v k) }
 {
-    if u == 0 {
-        if v == 0 {
-            return 0;
-        }
+    if u == 0 && v == 0 {
+        return 0;
     }
     word(op, x ^ u, y ^ v) ^ word(op, x, y)
 }
@@ -55,11 +51,9 @@ fn flip(row: &mut [u64], at: usize)
     ensures { Flipped at row.old row.new }
 {
     let first = at / BITS;
-    row[first] ^= ALL << (at % BITS);
-    let mut w = first + 1;
-    while w < row.len() {
-        row[w] ^= ALL;
-        w += 1;
+    row[first] ^= u64::MAX << (at % BITS);
+    for word in &mut row[first + 1..] {
+        *word ^= u64::MAX;
     }
 }
 
@@ -70,16 +64,13 @@ pub fn take_line(row: &mut [u64], keys: &[u32], i: usize, start: u32, limit: u32
     requires all { All (λ k. (start ≤ k) × (k < limit → k < start + 64 * length row.old)) (drop i keys.now) }
     ensures { TookLine keys.now i start limit row.old row.new result }
 {
-    let mut e = i;
-    while e < keys.len() {
-        let key = keys[e];
-        if limit <= key {
-            return e;
+    for (passed, key) in keys[i..].iter().enumerate() {
+        if limit <= *key {
+            return i + passed;
         }
-        flip(row, (key - start) as usize);
-        e += 1;
+        flip(row, (*key - start) as usize);
     }
-    e
+    keys.len()
 }
 
 // Puts out, behind n keys, a key for each one of a word, from a first key on, and answers how many keys that makes, whether they fit or not.
@@ -89,8 +80,9 @@ fn put_ones(ones: u64, at: u32, out: &mut [u32], n: usize) -> usize
 {
     let mut left = ones;
     let mut put = n;
+    // A walk along the ones of a word: they have no iterator.
     while left != 0 {
-        let place = u64::trailing_zeros(left);
+        let place = left.trailing_zeros();
         if put < out.len() {
             out[put] = at + place;
         }
@@ -120,15 +112,13 @@ pub fn put_line(
 {
     let mut put = n;
     let mut carry: u64 = 0;
-    let mut w = 0;
-    while w < last.len() {
+    for (w, word) in last.iter_mut().enumerate() {
         let now = changed(op, ra[w], rb[w], ca[w], cb[w]);
-        let turned = now ^ last[w];
-        last[w] = now;
+        let turned = now ^ *word;
+        *word = now;
         let ones = turned ^ (turned << 1) ^ carry;
         put = put_ones(ones, start + (BITS * w) as u32, out, put);
         carry = turned >> LAST;
-        w += 1;
     }
     put
 }
@@ -137,12 +127,5 @@ pub fn put_line(
 pub fn is_zero(row: &[u64]) -> bool
     ensures { result ≡ true → All (λ w. w ≡ 0) row.now }
 {
-    let mut w = 0;
-    while w < row.len() {
-        if row[w] != 0 {
-            return false;
-        }
-        w += 1;
-    }
-    true
+    row.iter().all(|word| *word == 0)
 }

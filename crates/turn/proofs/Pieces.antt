@@ -1,16 +1,19 @@
 -- What the functions of a turn show of lists.
 -- Assumes nothing.
 use mathlib.Core.Path.{◌≡◌, refl, sym, ◌∙◌, ap, ap₂, subst}
-use mathlib.Core.Logic.{inl, inr, ⊎_elim}
-use mathlib.Core.Bool.{Bool, true, false}
+use mathlib.Core.Logic.{◌⊎◌, inl, inr, ⊎_elim}
+use mathlib.Core.Bool.{Bool, true, false, cond}
 use mathlib.Core.List.{List, [], ◌∷◌, ◌++◌}
-use Prim.Native.Nat.{ℕ, suc, ◌+◌, ◌-◌, ◌*◌, ◌/◌, ◌%◌, ◌^◌, ◌≤◌, ◌<◌}
+use Prim.Native.Nat.{ℕ, suc, ◌+◌, ◌-◌, ◌*◌, ◌/◌, ◌%◌, ◌^◌, ◌≤◌, ◌<◌, min}
 use native.Mathlib.Nat.{mod-le, mod-lt, div-add-mod', add-sub_cancel, mul-mod_left}
 use native.Mathlib.Omega.{arith}
 use lib.Dec.{ltb}
 use lib.ListN.{length, take, drop, get_or, drop_of_length-le, length-drop, length-map}
 use lib.Seq.{drop-cons, take-suc, get_or-drop, take_at, length-take-le}
 use borrow.Author.Tests.{ltb-true, ltb-false}
+use Rattle.std.specs.List.{prefix_len}
+use Rattle.std.proofs.lemmas.List.{drop-drop}
+use Rattle.std.proofs.lemmas.List.Sums.{prefix_len-le-length}
 use Rattle.meaning.specs.Counting.{All}
 use Rattle.meaning.proofs.Space.{all_map, all_append}
 use Rattle.rising.specs.Merged.{From, merged, less_base, plus_base}
@@ -39,11 +42,17 @@ module _ (a b : List ℕ) (i j : ℕ) (ra : From 0 a) (rb : From 0 b) where
   pub least_a : i < length a → length b ≤ j → Least a i b j (get_or a i 0)
   least_a h u = record { in_a = from_at a i ra h; in_b = all_ended (λ k. get_or a i 0 ≤ k) b j u; one_of = inl (h, refl) }
 
-  pub lower_a : i < length a → j < length b → get_or a i 0 ≤ get_or b j 0 → Least a i b j (get_or a i 0)
-  lower_a h u l = record { in_a = from_at a i ra h; in_b = all_map (drop j b) (λ k q. omega arith) (from_at b j rb u); one_of = inl (h, refl) }
-
-  pub lower_b : i < length a → j < length b → get_or b j 0 ≤ get_or a i 0 → Least a i b j (get_or b j 0)
-  lower_b h u l = record { in_a = all_map (drop i a) (λ k q. omega arith) (from_at a i ra h); in_b = from_at b j rb u; one_of = inr (u, refl) }
+  pub least_both : {key : ℕ} → i < length a → j < length b → key ≡ min (get_or a i 0) (get_or b j 0) → Least a i b j key
+  least_both {key} h u e =
+      record {
+        in_a = all_map (drop i a) (λ k q. omega arith) (from_at a i ra h);
+        in_b = all_map (drop j b) (λ k q. omega arith) (from_at b j rb u);
+        one_of = go (ltb (get_or b j 0) (get_or a i 0)) refl;
+      }
+    where
+      go : (t : Bool) → ltb (get_or b j 0) (get_or a i 0) ≡ t → ((i < length a) × (get_or a i 0 ≡ key)) ⊎ ((j < length b) × (get_or b j 0 ≡ key))
+      go true q = inr (u, omega (arith, ltb-true (get_or b j 0) (get_or a i 0) q))
+      go false q = inl (h, omega (arith, ltb-false (get_or b j 0) (get_or a i 0) q))
 
 pub least_left : (Q : ℕ → Type 0) (a b : List ℕ) (i j key : ℕ) → Least a i b j key → All Q (drop i a) → All Q (drop j b) → Q key
 least_left Q a b i j key l ha hb =
@@ -82,8 +91,42 @@ module _ (l : List ℕ) (i limit : ℕ) where
   pub run_stops : (e : ℕ) → Running l i limit e → e < length l → limit ≤ get_or l e 0 → Ran l i limit e
   run_stops e r h u = (r.from, r.upto, r.under, all_map (drop e l) (λ k q. omega arith) (from_at l e r.rising h))
 
-  pub run_ends : (e : ℕ) → Running l i limit e → length l ≤ e → Ran l i limit e
-  run_ends e r h = (r.from, r.upto, r.under, all_ended (λ k. limit ≤ k) l e h)
+-- as many keys as lie below the limit before the first that does not
+abbrev pub below_limit : ℕ → List ℕ → ℕ
+below_limit limit l = prefix_len (λ k. ltb k limit) l
+
+run_front : (limit : ℕ) (l : List ℕ) → All (λ k. k < limit) (take (below_limit limit l) l)
+run_front limit [] = tt
+run_front limit (x ∷ l) = go (ltb x limit) refl (run_front limit l)
+  where
+    go : (b : Bool) → ltb x limit ≡ b → All (λ k. k < limit) (take (below_limit limit l) l)
+        → All (λ k. k < limit) (take (cond b (1 + below_limit limit l) 0) (x ∷ l))
+    go true e r =
+        let n : suc (below_limit limit l) ≡ 1 + below_limit limit l = omega arith in
+        subst (λ (m : ℕ). All (λ k. k < limit) (take m (x ∷ l))) n (ltb-true x limit e, r)
+    go false e r = tt
+
+-- and behind them, in a list that rises, none does
+run_behind : (limit m : ℕ) (l : List ℕ) → From m l → All (λ k. limit ≤ k) (drop (below_limit limit l) l)
+run_behind limit m [] h = tt
+run_behind limit m (x ∷ l) h = go (ltb x limit) refl (run_behind limit (suc x) l h.1)
+  where
+    go : (b : Bool) → ltb x limit ≡ b → All (λ k. limit ≤ k) (drop (below_limit limit l) l)
+        → All (λ k. limit ≤ k) (drop (cond b (1 + below_limit limit l) 0) (x ∷ l))
+    go true e r =
+        let n : suc (below_limit limit l) ≡ 1 + below_limit limit l = omega arith in
+        subst (λ (m : ℕ). All (λ k. limit ≤ k) (drop m (x ∷ l))) n r
+    go false e r =
+        let h0 = ltb-false x limit e in (h0, all_map l (λ k q. omega arith) (from_above (suc x) l h.1))
+
+pub run_counted : (l : List ℕ) (i limit n : ℕ) → i ≤ length l → From 0 l → n ≡ below_limit limit (drop i l) → Ran l i limit (i + n)
+run_counted l i limit n h r e =
+    let front : below_limit limit (drop i l) ≡ i + n - i = omega arith in (
+      omega arith,
+      omega (arith, length-drop i l, prefix_len-le-length (λ k. ltb k limit) (drop i l)),
+      subst (λ (m : ℕ). All (λ k. k < limit) (take m (drop i l))) front (run_front limit (drop i l)),
+      subst (All (λ k. limit ≤ k)) (ap (λ m. drop m (drop i l)) (sym e) ∙ drop-drop n i l) (run_behind limit 0 (drop i l) (from_drop 0 i l r)),
+    )
 
 -- ---- the next plane
 

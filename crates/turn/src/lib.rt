@@ -20,9 +20,7 @@ fn least(a: &[u32], i: usize, b: &[u32], j: usize) -> u32
     if j == b.len() {
         return a[i];
     }
-    let x = a[i];
-    let y = b[j];
-    if x < y { x } else { y }
+    a[i].min(b[j])
 }
 
 // The first place from i on whose key is not below a limit, or the length.
@@ -31,14 +29,7 @@ fn run(keys: &[u32], i: usize, limit: u32) -> usize
     requires from { From 0 keys.now }
     ensures { Ran keys.now i limit result }
 {
-    let mut e = i;
-    while e < keys.len() {
-        if limit <= keys[e] {
-            return e;
-        }
-        e += 1;
-    }
-    e
+    i + keys[i..].iter().take_while(|key| **key < limit).count()
 }
 
 // Takes the keys of a plane, from place i to e, into a section of n keys, and answers how many keys it has then; room is working room.

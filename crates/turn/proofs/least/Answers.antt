@@ -1,5 +1,5 @@
 use native.Mathlib.Omega.{arith}
-use Rattle.turn.proofs.Pieces.{least_a, least_b, lower_a, lower_b}
+use Rattle.turn.proofs.Pieces.{least_a, least_b, least_both}
 use borrow.Author.Rules.{rules}
 use Rattle.turn.proofs.least.Goals as goal
 
@@ -9,8 +9,5 @@ returns-then-i-a c = least_b _ _ _ _ (search rules) (search rules) (omega arith)
 pub returns-then-j-b : goal.returns-then-j-b
 returns-then-j-b c = least_a _ _ _ _ (search rules) (search rules) (omega arith) (omega arith)
 
-pub returns-then-x-y : goal.returns-then-x-y
-returns-then-x-y c = lower_a _ _ _ _ (search rules) (search rules) (omega arith) (omega arith) (omega arith)
-
-pub returns-else-x-y : goal.returns-else-x-y
-returns-else-x-y c = lower_b _ _ _ _ (search rules) (search rules) (omega arith) (omega arith) (omega arith)
+pub returns : goal.returns
+returns c = least_both _ _ _ _ (search rules) (search rules) (omega arith) (omega arith) c.min.ensures

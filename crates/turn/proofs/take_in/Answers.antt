@@ -5,4 +5,4 @@ use Rattle.turn.proofs.take_in.Goals as goal
 pub returns-then-i-e : goal.returns-then-i-e
 returns-then-i-e c =
     let p = c.requires in
-    took_none c.args.sec.now c.args.keys.now c.args.n c.args.i c.args.e c.args.base p.n_in_bounds.0 p.n_in_bounds.1 p.n_in_bounds.2 c.if-i-e.true
+    took_none _ _ _ _ _ _ p.n_in_bounds.0 p.n_in_bounds.1 p.n_in_bounds.2 c.if-i-e.true

@@ -36,5 +36,4 @@ put-requires c =
 pub returns : goal.returns
 returns c =
     let p = c.requires in
-    took c.args.sec.now c.args.keys.now c.args.n c.args.i c.args.e c.args.base p.n_in_bounds.0 p.n_in_bounds.1 p.n_in_bounds.2 c.merge-m.result
-    c.args.room.now c.merge-m.new.out _ c.merge-m.ensures.0 c.merge-m.ensures.1 c.put.ensures
+    took _ _ _ _ _ _ p.n_in_bounds.0 p.n_in_bounds.1 p.n_in_bounds.2 _ _ _ _ c.merge-m.ensures.0 c.merge-m.ensures.1 c.put.ensures
