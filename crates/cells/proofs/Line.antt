@@ -1,5 +1,5 @@
 -- The numbers of one line.
---   less_at, number_of, number_small      a member less a base; the number of a pair
+--   less_at, number_of, number_at, number_small      a member less a base; the number of a pair
 --   hit                        an odd number of members that pass is not none
 --   Among, among-..            the ranks behind the numbers at the first places
 --   OddTo, odd-..              the parity of the numbers up to a code, so far
@@ -43,6 +43,9 @@ numbers_long base l = length-map (less_base base l) (rest line_unit) ∙ less_lo
 
 pub number_of : (base : ℕ) (l : List ℕ) (i : ℕ) → i < length l → get_or (numbers_of base l) i 0 ≡ (get_or l i 0 - base) % line_unit
 number_of base l i h = map_at (rest line_unit) (less_base base l) i (omega (arith, less_long base l)) ∙ ap (rest line_unit) (less_at base l i h)
+
+pub number_at : (base : ℕ) (l : List ℕ) (i n : ℕ) → i < length l → n ≡ rest line_unit (get_or l i 0 - base) → n ≡ get_or (numbers_of base l) i 0
+number_at base l i n h e = e ∙ sym (number_of base l i h)
 
 pub number_small : (base : ℕ) (l : List ℕ) (i : ℕ) → i < length l → get_or (numbers_of base l) i 0 < line_unit
 number_small base l i h = omega (arith, number_of base l i h)

@@ -3,12 +3,12 @@
 // number that it has an odd number of times.
 #![tactic(auto)]
 
-ghost use Rattle.std.specs.Prelude.{◌≡◌, [], ◌*◌, ◌<◌, ◌^◌, min, leb, length, get_or};
+ghost use Rattle.std.specs.Prelude.{◌≡◌, [], ◌-◌, ◌*◌, ◌<◌, ◌≤◌, ◌^◌, leb, length, MatchOption};
 ghost use Rattle.meaning.proofs.Parity.{sum};
 ghost use Rattle.rows.specs.Rows.{bit_at};
 ghost use Rattle.ranks.specs.Values.{axis_codes, Sound};
-ghost use Rattle.cells.specs.Cells.{Best, Rank, Turned, point, line_in};
-ghost use Rattle.cells.specs.Line.{Above, numbers_of, Once, Behind, row_words, Toggled, Tells};
+ghost use Rattle.cells.specs.Cells.{Best, Rank, Turned, point, line_in, line_unit, rest};
+ghost use Rattle.cells.specs.Line.{Above, numbers_of, NotAt, Once, Behind, Toggled, Tells};
 
 use codes::LINE;
 use ranks::{END, Scale, value_at, value_behind};
@@ -16,13 +16,6 @@ use rows::BITS;
 
 // The words of a row that has a bit for each number of a line of keys.
 const WORDS: usize = 32;
-
-// The lesser of two ranks.
-fn lesser(a: u64, b: u64) -> u64
-    ensures { result ≡ min a b }
-{
-    if a < b { a } else { b }
-}
 
 // The lesser of best and the rank, from a base up, of the code just behind a number, if the number is a code.
 fn behind_one(second: Scale, number: u32, rank: u64, best: u64) -> u64
@@ -33,16 +26,15 @@ fn behind_one(second: Scale, number: u32, rank: u64, best: u64) -> u64
     if END <= number {
         return best;
     }
-    lesser(best, rank + value_behind(second, number))
+    best.min(rank + value_behind(second, number))
 }
 
-// The number on its line of the pair at place i; all pairs count from a base.
-fn number_at(pairs: &[u32], base: u32, i: usize) -> u32
-    requires above { Above base pairs.now }
-    requires i_in_bounds { i < length pairs.now }
-    ensures { result ≡ get_or (numbers_of base pairs.now) i 0 }
+// The number on its line of a pair that counts from a base.
+fn number_of(pair: u32, base: u32) -> u32
+    requires { base ≤ pair }
+    ensures { result ≡ rest line_unit (pair - base) }
 {
-    (pairs[i] - base) % LINE
+    (pair - base) % LINE
 }
 
 // Whether an odd number of pairs have a number of at most a code.
@@ -51,10 +43,8 @@ fn odd_upto(pairs: &[u32], base: u32, code: u32) -> bool
     ensures { result ≡ sum (λ k. leb k code) (numbers_of base pairs.now) }
 {
     let mut odd = false;
-    let mut i = 0;
-    while i < pairs.len() {
-        odd ^= number_at(pairs, base, i) <= code;
-        i += 1;
+    for pair in pairs {
+        odd ^= number_of(*pair, base) <= code;
     }
     odd
 }
@@ -68,10 +58,8 @@ fn behind_each(pairs: &[u32], base: u32, second: Scale, rank: u64, best: u64) ->
     ensures { Best (Turned 1 second point (numbers_of base pairs.now) 0 axis_codes rank) best result }
 {
     let mut found = best;
-    let mut i = 0;
-    while i < pairs.len() {
-        found = behind_one(second, number_at(pairs, base, i), rank, found);
-        i += 1;
+    for pair in pairs {
+        found = behind_one(second, number_of(*pair, base), rank, found);
     }
     found
 }
@@ -98,10 +86,8 @@ fn fill(pairs: &[u32], base: u32, row: &mut [u64])
     requires tells { Tells [] row.old }
     ensures { Tells (numbers_of base pairs.now) row.new }
 {
-    let mut i = 0;
-    while i < pairs.len() {
-        toggle(row, number_at(pairs, base, i) as usize);
-        i += 1;
+    for pair in pairs {
+        toggle(row, number_of(*pair, base) as usize);
     }
 }
 
@@ -114,15 +100,29 @@ fn behind_odd(pairs: &[u32], base: u32, row: &[u64], second: Scale, rank: u64, b
     ensures { Best (Turned 1 second point (numbers_of base pairs.now) 0 axis_codes rank) best result }
 {
     let mut found = best;
-    let mut i = 0;
-    while i < pairs.len() {
-        let number = number_at(pairs, base, i);
-        i += 1;
+    for pair in pairs {
+        let number = number_of(*pair, base);
         if is_set(row, number as usize) {
             found = behind_one(second, number, rank, found);
         }
     }
     found
+}
+
+// The least of best and the ranks, from a base up, of the cells of a line, where the wish's code is permitted there or no rank can be less than best.
+fn at_wish(pairs: &[u32], base: u32, second: Scale, rank: u64, best: u64) -> Option<u64>
+    requires above { Above base pairs.now }
+    requires sound { Sound second }
+    requires rank_bound { rank < 2 ^ 60 }
+    ensures { MatchOption result (NotAt second.wish (numbers_of base pairs.now)) (Best (Rank (line_in second) (numbers_of base pairs.now) rank) best) }
+{
+    if best <= rank {
+        return Some(best);
+    }
+    if odd_upto(pairs, base, second.wish) {
+        return Some(best.min(rank + value_at(second, second.wish)));
+    }
+    None
 }
 
 // The least of best and the ranks, from a base up, of the cells of a line that has each number of some pairs, all different.
@@ -133,11 +133,8 @@ pub fn own_line(pairs: &[u32], base: u32, second: Scale, rank: u64, best: u64) -
     requires rank_bound { rank < 2 ^ 60 }
     ensures { Best (Rank (line_in second) (numbers_of base pairs.now) rank) best result }
 {
-    if best <= rank {
-        return best;
-    }
-    if odd_upto(pairs, base, second.wish) {
-        return lesser(best, rank + value_at(second, second.wish));
+    if let Some(found) = at_wish(pairs, base, second, rank, best) {
+        return found;
     }
     behind_each(pairs, base, second, rank, best)
 }
@@ -149,11 +146,8 @@ pub fn joint_line(pairs: &[u32], base: u32, second: Scale, rank: u64, best: u64)
     requires rank_bound { rank < 2 ^ 60 }
     ensures { Best (Rank (line_in second) (numbers_of base pairs.now) rank) best result }
 {
-    if best <= rank {
-        return best;
-    }
-    if odd_upto(pairs, base, second.wish) {
-        return lesser(best, rank + value_at(second, second.wish));
+    if let Some(found) = at_wish(pairs, base, second, rank, best) {
+        return found;
     }
     let mut row = [0u64; WORDS];
     fill(pairs, base, &mut row);

@@ -2,9 +2,9 @@
 // A rank is one number for the distance of a cell and, among equals, its focus, first and second shift: the sum of one value for each axis.
 #![tactic(auto)]
 
-ghost use Rattle.std.specs.Prelude.{◌≡◌, ℕ, ◌<◌, ◌≤◌, min, max, length, get_or};
+ghost use Rattle.std.specs.Prelude.{◌≡◌, ℕ, ◌<◌, ◌≤◌, length, get_or};
 ghost use Rattle.keys.specs.Parts.{axis_at, part_on};
-ghost use Rattle.ranks.specs.Values.{axis_codes, apart, Near, value, Sound, Valued, behind, way, Brought};
+ghost use Rattle.ranks.specs.Values.{axis_codes, Near, value, Sound, Valued, behind, way, Brought};
 ghost use Rattle.ranks.specs.Extents.{Extends};
 
 // How many codes an axis has.
@@ -24,25 +24,12 @@ pub struct Scale {
     pub place: u64,
 }
 
-// The difference of two numbers.
-fn gap(a: u32, b: u32) -> u32
-    ensures { result ≡ apart a b }
-{
-    if a < b { b - a } else { a - b }
-}
-
 // The code from low to below high that lies nearest to the wish.
 pub fn near(wish: u32, low: u32, high: u32) -> u32
     requires { low < high }
     ensures { Near wish low high result }
 {
-    if wish < low {
-        return low;
-    }
-    if high <= wish {
-        return high - 1;
-    }
-    wish
+    wish.clamp(low, high - 1)
 }
 
 // What a code counts in a rank.
@@ -52,8 +39,8 @@ pub fn value_at(scale: Scale, code: u32) -> u64
     requires code_lt_axis_codes { code < axis_codes }
     ensures { Valued scale code result }
 {
-    let cost = scale.weight * (gap(scale.wish, code) as u64);
-    cost * DISTANCE + (code as u64) * scale.place
+    let cost = scale.weight * u64::from(scale.wish.abs_diff(code));
+    cost * DISTANCE + u64::from(code) * scale.place
 }
 
 // The code just behind a number as seen from the wish.
@@ -61,12 +48,10 @@ fn code_behind(wish: u32, number: u32) -> u32
     ensures { result ≡ behind wish number }
 {
     if wish < number {
-        return number;
+        number
+    } else {
+        number.saturating_sub(1)
     }
-    if number == 0 {
-        return 0;
-    }
-    number - 1
 }
 
 // What the code just behind a number counts in a rank.
@@ -98,7 +83,7 @@ pub fn beyond(wish: u32, scale: Scale) -> u64
     requires sound { Sound scale }
     ensures { result ≡ way wish scale }
 {
-    scale.weight * (gap(wish, scale.wish + LOWEST) as u64)
+    scale.weight * u64::from(wish.abs_diff(scale.wish + LOWEST))
 }
 
 // The lowest and the highest number on an axis, counted from 0.
@@ -108,20 +93,6 @@ pub struct Extent {
     pub high: u32,
 }
 
-// The lesser of two numbers.
-fn lesser(a: u32, b: u32) -> u32
-    ensures { result ≡ min a b }
-{
-    if a < b { a } else { b }
-}
-
-// The greater of two numbers.
-fn greater(a: u32, b: u32) -> u32
-    ensures { result ≡ max a b }
-{
-    if a < b { b } else { a }
-}
-
 // From where to where the parts of some keys lie on an axis: a wish outside is first brought to there, so that the search can stop early.
 pub fn extend(keys: &[u32], axis: u32) -> Extent
     requires { (i : ℕ) → i < length keys.now → part_on (axis_at axis) (get_or keys.now i 0) ≤ axis_codes }
@@ -129,12 +100,10 @@ pub fn extend(keys: &[u32], axis: u32) -> Extent
 {
     let mut low = END;
     let mut high = 0;
-    let mut i = 0;
-    while i < keys.len() {
-        let number = keys::part_on(keys[i], axis);
-        low = lesser(low, number);
-        high = greater(high, number);
-        i += 1;
+    for key in keys {
+        let number = keys::part_on(*key, axis);
+        low = low.min(number);
+        high = high.max(number);
     }
     Extent { low, high }
 }

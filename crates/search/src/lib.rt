@@ -20,14 +20,12 @@ fn run_start(list: &[u32], i: usize, unit: u32) -> usize
     ensures { Run (high unit) list.now result i × Cut (high unit) list.now result }
 {
     let base = list[i - 1] / unit * unit;
-    let mut j = i - 1;
-    while 0 < j {
+    for j in (1..i).rev() {
         if list[j - 1] < base {
             return j;
         }
-        j -= 1;
     }
-    j
+    0
 }
 
 // Writes the pairs of some keys to the front of room, in order, each that occurs an odd number of times once, and answers how many these are.
@@ -35,12 +33,10 @@ fn pairs_of(keys: &[u32], room: &mut [u32], work: &mut [u32]) -> usize
     requires { (length keys.now ≤ length room.old) × (length keys.now ≤ length work.old) }
     ensures { Front (norm (map (rest plane_unit) keys.now)) room.new result }
 {
-    let mut n = 0;
-    while n < keys.len() {
-        room[n] = keys[n] % PLANE;
-        n += 1;
+    for (n, key) in keys.iter().enumerate() {
+        room[n] = *key % PLANE;
     }
-    rising::cancel(&mut room[..n], work)
+    rising::cancel(&mut room[..keys.len()], work)
 }
 
 // The section at a place between planes: writes its pairs to the front of room, from the side that has fewer keys, and answers how many there are.
@@ -70,6 +66,7 @@ fn planes_above(
     ensures { Best (Above focus first second keys.now place) best result }
 {
     let mut found = best;
+    // By an index: `run_end` says where a plane ends, at one difference a key; `chunk_by` would divide at each two neighbours.
     let mut i = place;
     while i < keys.len() {
         let number = keys[i] / PLANE;
@@ -102,6 +99,7 @@ fn planes_below(
     ensures { Best (Below focus first second keys.now place) best result }
 {
     let mut found = best;
+    // By an index: from plane to plane downward, and no method of a slice goes by runs from its end.
     let mut i = place;
     while 0 < i {
         let number = keys[i - 1] / PLANE;

@@ -6,7 +6,7 @@
 --   less_run, above_run, above_take  parts of a list that counts from a base
 --   once                             the rests of a run are all different
 --   run_begins, run_goes_on, run_stops, run_ends     where a run ends
---   Split, split-..                  the numbers up to a code
+--   less_le, edge_at                 the numbers up to a code
 --   high_in, high_out                the high part at a place
 -- Assumes nothing.
 use mathlib.Core.Path.{◌≡◌, refl, sym, ◌∙◌, ap, ap₂, subst}
@@ -24,7 +24,7 @@ use Rattle.rising.specs.Merged.{From, less_base}
 use Rattle.rising.proofs.Sums.{from_less}
 use Rattle.cells.specs.Cells.{high, rest, high_at, Cut, Run, Edge}
 use Rattle.cells.specs.Line.{Above, Once}
-use Rattle.cells.proofs.Line.{map_at}
+use Rattle.cells.proofs.Line.{map_at, less_at, less_long}
 
 -- ---- sums
 
@@ -246,41 +246,28 @@ cut_none hi l i h = record { within = omega arith; apart = λ j k p q r. absurd 
 
 -- ---- which numbers lie up to a code
 
--- the numbers before lo lie below a bound, those from hi on do not
-pub record Split (l : List ℕ) (bound lo hi : ℕ) : Type 0 where
-  pub order : lo ≤ hi
-  pub within : hi ≤ length l
-  pub under : (j : ℕ) → j < lo → get_or l j 0 < bound
-  pub over : (j : ℕ) → hi ≤ j → j < length l → bound ≤ get_or l j 0
+-- less a base the numbers do not fall
+pub less_le : (base : ℕ) (l : List ℕ) → From 0 (less_base base l) → (j k : ℕ) → j ≤ k → k < length l → get_or l j 0 - base ≤ get_or l k 0 - base
+less_le base l rises j k p q =
+    omega (arith, less_at base l j (omega arith), less_at base l k q, from_le 0 (less_base base l) rises j k p (omega (arith, less_long base l)))
 
-module _ {l : List ℕ} (rises : From 0 l) {bound lo hi : ℕ} (mid : ℕ) (s : Split l bound lo hi) (h : lo ≤ mid) (k : mid < hi) where
-  pub split_up : get_or l mid 0 < bound → Split l bound (mid + 1) hi
-  split_up p =
-      record {
-        order = omega arith;
-        within = s.within;
-        under = λ j q. omega (arith, from_le 0 l rises j mid (omega arith) (omega (arith, s.within)));
-        over = s.over;
-      }
-
-  pub split_down : bound ≤ get_or l mid 0 → Split l bound lo mid
-  split_down p =
-      record {
-        order = h;
-        within = omega (arith, s.within);
-        under = s.under;
-        over = λ j q r. omega (arith, from_le 0 l rises mid j q r);
-      }
-
-pub split_all : {l : List ℕ} {bound n : ℕ} → length l ≡ n → Split l bound 0 n
-split_all e = record { order = omega arith; within = omega arith; under = λ j p. absurd (omega arith); over = λ j p q. absurd (omega arith) }
-
-pub split_edge : (unit : ℕ) → 0 < unit → (code : ℕ) {l : List ℕ} {lo : ℕ} → Split l ((code + 1) * unit) lo lo → Edge (high unit) l code lo
-split_edge unit u code {l} {lo} s =
+-- the numbers before a place lie below the end of a code, those from it on do not
+pub edge_at : (unit : ℕ) → 0 < unit → (base code : ℕ) (l : List ℕ) (i : ℕ) → i ≤ length l
+    → ((j : ℕ) → j < i → get_or l j 0 - base < (code + 1) * unit)
+    → ((j : ℕ) → i ≤ j → j < length l → (code + 1) * unit ≤ get_or l j 0 - base)
+    → Edge (high unit) (less_base base l) code i
+edge_at unit u base code l i h under over =
     record {
-      within = s.within;
-      upto = λ j p. let a : high unit (get_or l j 0) < code + 1 = (div-lt_iff_lt-mul u).1 (s.under j p) in omega arith;
-      beyond = λ j p q. let a : code + 1 ≤ high unit (get_or l j 0) = (le-div_iff_mul-le u).1 (s.over j p q) in omega arith;
+      within = omega (arith, less_long base l);
+      upto = λ j p.
+          let e = less_at base l j (omega arith) in
+          let a : high unit (get_or l j 0 - base) < code + 1 = (div-lt_iff_lt-mul u).1 (under j p) in
+          omega (arith, ap (high unit) e);
+      beyond = λ j p q.
+          let r : j < length l = omega (arith, less_long base l) in
+          let e = less_at base l j r in
+          let a : code + 1 ≤ high unit (get_or l j 0 - base) = (le-div_iff_mul-le u).1 (over j p r) in
+          omega (arith, ap (high unit) e);
     }
 
 -- ---- the high part at a place

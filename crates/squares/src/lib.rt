@@ -20,14 +20,12 @@ pub fn run_end(list: &[u32], base: u32, i: usize, unit: u32) -> usize
     ensures { RunTo unit base list.now i result }
 {
     let low = (list[i] - base) / unit * unit;
-    let mut e = i + 1;
-    while e < list.len() {
+    for e in i + 1..list.len() {
         if unit <= list[e] - base - low {
             return e;
         }
-        e += 1;
     }
-    e
+    list.len()
 }
 
 // How many numbers have a high part of at most a code; all count from a base.
@@ -37,17 +35,7 @@ pub fn upto(list: &[u32], base: u32, code: u32, unit: u32) -> usize
     ensures { Edge (high unit) (less_base base list.now) code result }
 {
     let bound = (code + 1) * unit;
-    let mut start = 0;
-    let mut end = list.len();
-    while start < end {
-        let middle = start + (end - start) / 2;
-        if list[middle] - base < bound {
-            start = middle + 1;
-        } else {
-            end = middle;
-        }
-    }
-    start
+    list.partition_point(|key| key.saturating_sub(base) < bound)
 }
 
 // The least of best and the ranks, from a base up, of the squares just behind the lines that some pairs lie on.
@@ -58,6 +46,7 @@ fn own_lines(pairs: &[u32], base: u32, first: Scale, second: Scale, rank: u64, b
     ensures { Best (BehindLines first second (less_base base pairs.now) rank) best result }
 {
     let mut found = best;
+    // By an index: `run_end` says where a run ends, at one difference a number; `chunk_by` would divide at each two neighbours.
     let mut i = 0;
     while i < pairs.len() {
         let line = (pairs[i] - base) / LINE;

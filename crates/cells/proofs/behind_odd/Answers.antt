@@ -2,44 +2,50 @@
 use mathlib.Core.Path.{◌≡◌, sym, ◌∙◌, ap, subst}
 use mathlib.Core.Bool.{Bool}
 use mathlib.Core.List.{List}
-use Prim.Native.Nat.{ℕ}
+use Prim.Native.Nat.{ℕ, ◌+◌, ◌-◌, ◌<◌}
 use native.Mathlib.Omega.{arith}
 use lib.Dec.{eqb}
-use lib.ListN.{get_or}
+use lib.ListN.{length, get_or}
 use Rattle.meaning.proofs.Parity.{sum}
 use Rattle.rows.specs.Rows.{bit_at}
-use Rattle.cells.specs.Cells.{Best}
-use Rattle.cells.specs.Line.{numbers_of, Behind}
-use Rattle.cells.proofs.Line.{numbers_long, number_small, among_on, among_skip, among_all}
+use Rattle.cells.specs.Cells.{Best, line_unit, rest}
+use Rattle.cells.specs.Line.{numbers_of, Behind, Tells}
+use Rattle.cells.proofs.Line.{Among, numbers_long, number_at, number_small, among_on, among_skip, among_all}
 use Rattle.cells.proofs.behind_odd.Goals as goal
-use Rattle.cells.proofs.behind_odd.Goals.{After-number_at-number}
+use Rattle.cells.proofs.behind_odd.Goals.{then-is_set, else-is_set}
 
-abbrev numbers : After-number_at-number → List ℕ
-numbers n = numbers_of n.args.base n.args.pairs.now
-
--- what the row says of the number at the place
-told : (n : After-number_at-number) {b t : Bool} → b ≡ bit_at n.args.row.now n.number_at-number.result → b ≡ t
-    → sum (λ k. eqb k (get_or (numbers n) n.loop-i.i 0)) (numbers n) ≡ t
-told n e f =
-    let h = number_small n.args.base n.args.pairs.now n.loop-i.i n.loop-i-test.true in
-    sym (n.requires.tells.bits (get_or (numbers n) n.loop-i.i 0) h) ∙ ap (bit_at n.args.row.now) (sym n.number_at-number.ensures) ∙ sym e ∙ f
+-- what a row says of the number at a place
+told : (base : ℕ) (l row : List ℕ) (i n : ℕ) → Tells (numbers_of base l) row → i < length l → n ≡ rest line_unit (get_or l i 0 - base)
+    → {b t : Bool} → b ≡ bit_at row n → b ≡ t → sum (λ k. eqb k (get_or (numbers_of base l) i 0)) (numbers_of base l) ≡ t
+told base l row i n tells h e p q =
+    sym (tells.bits (get_or (numbers_of base l) i 0) (number_small base l i h)) ∙
+    ap (bit_at row) (sym (number_at base l i n h e)) ∙
+    sym p ∙
+    q
 
 pub is_set-requires : goal.is_set-requires
-is_set-requires c =
-    omega (
-      arith,
-      number_small c.args.base c.args.pairs.now c.loop-i.i c.loop-i-test.true,
-      c.number_at-number.ensures,
-      c.requires.tells.long,
-    )
+is_set-requires c = omega (arith, c.number_of-number.ensures, c.requires.tells.long)
 
-pub loop-i-preserved-then-is_set : goal.loop-i-preserved-then-is_set
-loop-i-preserved-then-is_set c =
-    among_on (told (goal.at.loop-i-preserved-then-is_set c).After-number_at-number c.is_set.ensures c.if-is_set.true) c.loop-i.invariant
-    (subst (λ (x : ℕ). Best (Behind c.args.second x c.args.rank) c.loop-i.found c.behind_one-found.result) c.number_at-number.ensures c.behind_one-found.ensures)
-
-pub loop-i-preserved : goal.loop-i-preserved
-loop-i-preserved c = among_skip (told (goal.at.loop-i-preserved c).After-number_at-number c.is_set.ensures c.if-is_set.false) c.loop-i.invariant
+pub loop-pair-preserved : goal.loop-pair-preserved
+loop-pair-preserved c =
+    elim c.if-is_set.branch [
+      | then-is_set w ↦
+          subst (λ (r : ℕ). Best (Among c.args.second (numbers_of c.args.base c.args.pairs.now) (c.loop-pair.pair-index + 1) c.args.rank) c.args.best r)
+          (sym w.found-is)
+          (among_on
+          (told c.args.base c.args.pairs.now c.args.row.now c.loop-pair.pair-index _ c.requires.tells c.loop-pair-test.true c.number_of-number.ensures
+          c.is_set.ensures w.if-is_set.true)
+          c.loop-pair.invariant
+          (subst (λ (x : ℕ). Best (Behind c.args.second x c.args.rank) c.loop-pair.found w.behind_one-found.result)
+          (number_at c.args.base c.args.pairs.now c.loop-pair.pair-index _ c.loop-pair-test.true c.number_of-number.ensures) w.behind_one-found.ensures))
+      | else-is_set w ↦
+          subst (λ (r : ℕ). Best (Among c.args.second (numbers_of c.args.base c.args.pairs.now) (c.loop-pair.pair-index + 1) c.args.rank) c.args.best r)
+          (sym w.found-is)
+          (among_skip
+          (told c.args.base c.args.pairs.now c.args.row.now c.loop-pair.pair-index _ c.requires.tells c.loop-pair-test.true c.number_of-number.ensures
+          c.is_set.ensures w.if-is_set.false)
+          c.loop-pair.invariant)
+    ]
 
 pub returns : goal.returns
-returns c = among_all (omega (arith, numbers_long c.args.base c.args.pairs.now, c.loop-i-test.false)) c.loop-i.invariant
+returns c = among_all (omega (arith, numbers_long c.args.base c.args.pairs.now, c.loop-pair-test.false)) c.loop-pair.invariant

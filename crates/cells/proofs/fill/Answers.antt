@@ -3,23 +3,18 @@ use mathlib.Core.Path.{subst}
 use Prim.Native.Nat.{ℕ}
 use native.Mathlib.Omega.{arith}
 use Rattle.cells.specs.Line.{numbers_of, Toggled}
-use Rattle.cells.proofs.Line.{numbers_long, number_small}
+use Rattle.cells.proofs.Line.{numbers_long, number_at, number_small}
 use Rattle.cells.proofs.Bits.{tells_on}
 use Rattle.cells.proofs.fill.Goals as goal
 
 pub toggle-requires : goal.toggle-requires
-toggle-requires c =
-    omega (
-      arith,
-      number_small c.args.base c.args.pairs.now c.loop-i.i c.loop-i-test.true,
-      c.number_at.ensures,
-      c.loop-i.invariant.long,
-    )
+toggle-requires c = omega (arith, c.number_of.ensures, c.loop-pair.invariant.long)
 
-pub loop-i-preserved : goal.loop-i-preserved
-loop-i-preserved c =
+pub loop-pair-preserved : goal.loop-pair-preserved
+loop-pair-preserved c =
     let m = numbers_of c.args.base c.args.pairs.now in
-    let h = c.loop-i-test.true in
-    tells_on m c.loop-i.row _ c.loop-i.i (omega (arith, numbers_long c.args.base c.args.pairs.now))
-    (number_small c.args.base c.args.pairs.now c.loop-i.i h) c.loop-i.invariant
-    (subst (λ (n : ℕ). Toggled n c.loop-i.row c.toggle.new.row) c.number_at.ensures c.toggle.ensures)
+    let h = c.loop-pair-test.true in
+    tells_on m c.loop-pair.row _ c.loop-pair.pair-index (omega (arith, numbers_long c.args.base c.args.pairs.now))
+    (number_small c.args.base c.args.pairs.now c.loop-pair.pair-index h) c.loop-pair.invariant
+    (subst (λ (n : ℕ). Toggled n c.loop-pair.row c.toggle.new.row)
+    (number_at c.args.base c.args.pairs.now c.loop-pair.pair-index _ h c.number_of.ensures) c.toggle.ensures)

@@ -3,8 +3,11 @@ use mathlib.Core.Path.{ap}
 use native.Mathlib.Omega.{arith}
 use lib.Dec.{leb}
 use Rattle.cells.specs.Line.{numbers_of}
-use Rattle.cells.proofs.Line.{numbers_long, odd_next}
+use Rattle.cells.proofs.Line.{numbers_long, number_at, odd_next}
 use Rattle.cells.proofs.odd_upto.Goals as goal
 
-pub loop-i-preserved : goal.loop-i-preserved
-loop-i-preserved c = odd_next (λ k. leb k c.args.code) (numbers_of c.args.base c.args.pairs.now) c.loop-i.i _ _ (omega (arith, numbers_long c.args.base c.args.pairs.now, c.loop-i-test.true)) c.loop-i.invariant (ap (λ n. leb n c.args.code) c.number_at.ensures)
+pub loop-pair-preserved : goal.loop-pair-preserved
+loop-pair-preserved c =
+    odd_next (λ k. leb k c.args.code) (numbers_of c.args.base c.args.pairs.now) c.loop-pair.pair-index _ _
+    (omega (arith, numbers_long c.args.base c.args.pairs.now, c.loop-pair-test.true)) c.loop-pair.invariant
+    (ap (λ n. leb n c.args.code) (number_at c.args.base c.args.pairs.now c.loop-pair.pair-index _ c.loop-pair-test.true c.number_of.ensures))
