@@ -9,7 +9,7 @@ ghost use Rattle.meaning.specs.Verdicts.{verdict};
 ghost use Rattle.lists.specs.Check.{Checked};
 ghost use Rattle.codes.specs.Keys.{of_key};
 ghost use Rattle.nearest.specs.Answer.{Answered};
-ghost use Rattle.nearest.specs.Ranks.{RankedFor, code_at, found_at, Askable, Wished, Keyed, Located, Rooms, few_vertices};
+ghost use Rattle.nearest.specs.Ranks.{RankedFor, code_at, found_at, Askable, Wished, Keyed, Located, Rooms};
 
 use meaning::{MOST_VERTICES, Verdict};
 use ranks::{DISTANCE, END, Extent};
@@ -20,14 +20,14 @@ const FOCUS_WEIGHT: u64 = 1;
 const SHIFT_WEIGHT: u64 = 1;
 
 // What one code counts among cells at the same distance: lowest focus, then first shift, then second.
-pub const FOCUS_PLACE: u64 = 1048576;
+pub const FOCUS_PLACE: u64 = 1 << 20;
 
-pub const FIRST_PLACE: u64 = 1024;
+pub const FIRST_PLACE: u64 = 1 << 10;
 
 pub const SECOND_PLACE: u64 = 1;
 
 // A rank above that of every cell.
-const NONE: u64 = 1152921504606846976;
+const NONE: u64 = 1 << 60;
 
 // The numbers of a vertex.
 const NUMBERS: usize = 3;
@@ -115,27 +115,16 @@ fn rank_with_room(
     rank_of(front, extents, focus, first, second, room, work)
 }
 
-// The same with room of its own for few vertices.
-fn rank_of_few(list: &[i16], focus: u32, first: u32, second: u32) -> u64
+// The same with room of its own for ROOM vertices.
+fn rank_in_room<const ROOM: usize>(list: &[i16], focus: u32, first: u32, second: u32) -> u64
     requires askable { Askable list.now focus first second }
-    requires list_len_bound { length (vertices list.now) ≤ few_vertices }
+    requires list_len_bound { length (vertices list.now) ≤ ROOM }
+    requires room_bound { ROOM ≤ 1024 }
     ensures { RankedFor (vertices list.now) focus first second result }
 {
-    let mut keys = [0u32; SMALL];
-    let mut room = [0u32; SMALL];
-    let mut work = [0u32; SMALL];
-    rank_with_room(list, focus, first, second, &mut keys, &mut room, &mut work)
-}
-
-// The same with room of its own for as many vertices as a list may have.
-fn rank_of_many(list: &[i16], focus: u32, first: u32, second: u32) -> u64
-    requires askable { Askable list.now focus first second }
-    requires list_len_bound { length (vertices list.now) ≤ 1024 }
-    ensures { RankedFor (vertices list.now) focus first second result }
-{
-    let mut keys = [0u32; MOST_VERTICES];
-    let mut room = [0u32; MOST_VERTICES];
-    let mut work = [0u32; MOST_VERTICES];
+    let mut keys = [0u32; ROOM];
+    let mut room = [0u32; ROOM];
+    let mut work = [0u32; ROOM];
     rank_with_room(list, focus, first, second, &mut keys, &mut room, &mut work)
 }
 
@@ -170,9 +159,9 @@ pub fn nearest_of_map(list: &[i16], focus: i16, first: i16, second: i16) -> Foun
     let b = codes::lift(first) as u32;
     let d = codes::lift(second) as u32;
     if list.len() <= NUMBERS * SMALL {
-        return answer(rank_of_few(list, a, b, d));
+        return answer(rank_in_room::<SMALL>(list, a, b, d));
     }
-    answer(rank_of_many(list, a, b, d))
+    answer(rank_in_room::<MOST_VERTICES>(list, a, b, d))
 }
 
 // Inner: what `nearest` answers, by the check's verdict on the list. Apart from the check, so that the two do not stand on the stack together.

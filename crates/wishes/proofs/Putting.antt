@@ -1,16 +1,14 @@
 -- The loop over the wishes: the cells of the wishes so far stand at the front.
 --   spelled                            the numbers of the cells nearest to wishes
---   wishes_from                        the wish from a place on, and those behind it
+--   wishes_from                        the wish that comes first, and those behind it
 --   Putting                            so far; putting_begins, putting_room, puts, putting_ends
 -- Assumes nothing.
 use mathlib.Core.Path.{◌≡◌, refl, sym, ◌∙◌, ap, subst}
 use mathlib.Core.List.{List, [], ◌∷◌, ◌++◌, map}
-use Prim.Native.Nat.{ℕ, suc, ◌+◌, ◌%◌, ◌≤◌, ◌<◌}
+use Prim.Native.Nat.{ℕ, ◌+◌, ◌≤◌, ◌<◌}
 use native.Mathlib.Omega.{arith}
-use native.Mathlib.Numerals.{add-one}
-use lib.IntN.{ℤ, pos}
-use lib.ListN.{length, drop, set, get_or, drop_of_length-le}
-use lib.Seq.{drop-cons}
+use lib.IntN.{ℤ}
+use lib.ListN.{length, drop, set, length-append}
 use Rattle.meaning.specs.Numbers.{Corner}
 use Rattle.meaning.specs.Lists.{vertices, permitted}
 use Rattle.meaning.specs.Nearest.{Nearest}
@@ -23,69 +21,63 @@ use Rattle.wishes.proofs.Each.{nearest_to, nearest_is, nearest_once, each_neares
 abbrev pub spelled : List ℤ → List ℤ → List ℤ
 spelled ns ws = cell_numbers (map (nearest_to ns) (wishes ws))
 
-wishes_from : (ws : List ℤ) (at : ℕ) → at + 2 < length ws → wishes (drop at ws) ≡ wish_from ws at ∷ wishes (drop (at + 3) ws)
-wishes_from ws at h =
-    ap wishes
-    (drop-cons ws at (pos 0) (omega arith) ∙
-    ap (get_or ws at (pos 0) ∷◌)
-    (ap (λ k. drop k ws) (sym (add-one at)) ∙
-    drop-cons ws (at + 1) (pos 0) (omega arith) ∙
-    ap (get_or ws (at + 1) (pos 0) ∷◌)
-    (ap (λ k. drop k ws) two ∙
-    drop-cons ws (at + 2) (pos 0) (omega arith) ∙
-    ap (λ k. get_or ws (at + 2) (pos 0) ∷ drop k ws) three)))
-  where
-    two : suc (at + 1) ≡ at + 2
-    two = omega arith
+wishes_from : (wish left : List ℤ) → length wish ≡ 3 → wishes (wish ++ left) ≡ wish_from wish 0 ∷ wishes left
+wishes_from [] left e = absurd (omega arith)
+wishes_from (x ∷ []) left e = absurd (omega arith)
+wishes_from (x ∷ y ∷ []) left e = absurd (omega arith)
+wishes_from (x ∷ y ∷ z ∷ []) left e = refl
+wishes_from (x ∷ y ∷ z ∷ t ∷ l) left e = absurd (omega arith)
 
-    three : suc (at + 2) ≡ at + 3
-    three = omega arith
+-- numbers that are left make no wish if there are fewer than three
+no_wish : (left : List ℤ) → length left < 3 → wishes left ≡ []
+no_wish [] h = refl
+no_wish (x ∷ []) h = refl
+no_wish (x ∷ y ∷ []) h = refl
+no_wish (x ∷ y ∷ z ∷ l) h = absurd (omega arith)
 
-pub record Putting (ns ws before now : List ℤ) (at : ℕ) : Type 0 where
-  pub place : at % 3 ≡ 0
-  pub read : at ≤ length ws
-  pub written : Written (spelled ns ws) (spelled ns (drop at ws)) before now at
+-- `left` is what is left of the wishes, `at` how many numbers are written
+pub record Putting (ns ws before left now : List ℤ) (at : ℕ) : Type 0 where
+  pub read : at + length left ≡ length ws
+  pub written : Written (spelled ns ws) (spelled ns left) before now at
 
 module _ (ns ws before : List ℤ) where
-  pub putting_begins : Putting ns ws before before 0
-  putting_begins = record { place = refl; read = omega arith; written = none _ before }
+  pub putting_begins : Putting ns ws before ws before 0
+  putting_begins = record { read = omega arith; written = none _ before }
 
-  module _ (h : Wishable ns ws before) (now : List ℤ) (at : ℕ) (m : Putting ns ws before now at) where
-    pub putting_room : at < length ws → (at + 2 < length ws) × (at + 2 < length now)
-    putting_room k = let t : at + 2 < length ws = omega (arith, h.threes, m.place) in (t, omega (arith, h.room, m.written.long))
+  module _ (h : Wishable ns ws before) (wish left now : List ℤ) (at : ℕ) (m : Putting ns ws before (wish ++ left) now at) (three : length wish ≡ 3) where
+    pub putting_room : at + 2 < length now
+    putting_room = omega (arith, h.room, m.read, m.written.long, length-append wish left)
 
     -- one wish more, by the vertices that the keys give back
-    pub puts : at < length ws → (l : List Corner) → l ≡ vertices ns → (after : List ℤ) → NearestPut l (wish_from ws at) at now after
-        → Putting ns ws before after (at + 3)
-    puts k l is after p =
-        let t = (putting_room k).0 in
-        let w = wish_from ws at in
+    pub puts : (l : List Corner) → l ≡ vertices ns → (after : List ℤ) → NearestPut l (wish_from wish 0) at now after
+        → Putting ns ws before left after (at + 3)
+    puts l is after p =
+        let w = wish_from wish 0 in
         let e : p.found ≡ nearest_to ns w =
         nearest_once ns (ap passes h.valid) h.some w p.found (nearest_to ns w)
         (λ q d y. subst (λ (j : List Corner). Nearest (permitted j) w p.found) is p.nearest) (nearest_is ns w) in
-        let next : spelled ns (drop at ws) ≡ cell_numbers (p.found ∷ []) ++ spelled ns (drop (at + 3) ws) =
-        ap (λ l. cell_numbers (map (nearest_to ns) l)) (wishes_from ws at t) ∙ ap (λ c. cell_numbers (c ∷ map (nearest_to ns) (wishes (drop (at + 3) ws)))) (sym e) in
-        let s = several (cell_numbers (p.found ∷ [])) (to_come _ m.written next) (omega (arith, h.room)) in
+        let next : spelled ns (wish ++ left) ≡ cell_numbers (p.found ∷ []) ++ spelled ns left =
+        ap (λ l. cell_numbers (map (nearest_to ns) l)) (wishes_from wish left three) ∙ ap (λ c. cell_numbers (c ∷ map (nearest_to ns) (wishes left))) (sym e) in
+        let s = several (cell_numbers (p.found ∷ [])) (to_come _ m.written next) (omega (arith, h.room, m.read, length-append wish left)) in
         record {
-          place = omega (arith, m.place);
-          read = omega arith;
+          read = omega (arith, m.read, length-append wish left);
           written =
-              subst (λ (o : List ℤ). Written (spelled ns ws) (spelled ns (drop (at + 3) ws)) before o (at + 3)) (sym p.is)
-              (subst (λ (i : ℕ). Written (spelled ns ws) (spelled ns (drop (at + 3) ws)) before
-              (set (set (set now at p.found.focus) (at + 1) p.found.first) (at + 2) p.found.second) i) three
-              (subst (λ (i : ℕ). Written (spelled ns ws) (spelled ns (drop (at + 3) ws)) before
-              (set (set (set now at p.found.focus) (at + 1) p.found.first) i p.found.second) (at + 1 + 1 + 1)) two s));
+              subst (λ (o : List ℤ). Written (spelled ns ws) (spelled ns left) before o (at + 3)) (sym p.is)
+              (subst (λ (i : ℕ). Written (spelled ns ws) (spelled ns left) before
+              (set (set (set now at p.found.focus) (at + 1) p.found.first) (at + 2) p.found.second) i) up_three
+              (subst (λ (i : ℕ). Written (spelled ns ws) (spelled ns left) before
+              (set (set (set now at p.found.focus) (at + 1) p.found.first) i p.found.second) (at + 1 + 1 + 1)) up_two s));
         }
       where
-        two : at + 1 + 1 ≡ at + 2
-        two = omega arith
+        up_two : at + 1 + 1 ≡ at + 2
+        up_two = omega arith
 
-        three : at + 1 + 1 + 1 ≡ at + 3
-        three = omega arith
+        up_three : at + 1 + 1 + 1 ≡ at + 3
+        up_three = omega arith
 
-  pub putting_ends : (now : List ℤ) (at : ℕ) → Putting ns ws before now at → length ws ≤ at → EachPut ns ws before now
-  putting_ends now at m k =
-      let r = all (to_come [] m.written (ap (spelled ns) (drop_of_length-le ws k))) in
+  pub putting_ends : (left now : List ℤ) (at : ℕ) → Putting ns ws before left now at → length left < 3 → EachPut ns ws before now
+  putting_ends left now at m k =
+      let r = all (to_come [] m.written (ap (λ l. cell_numbers (map (nearest_to ns) l)) (no_wish left k))) in
       record {
         cells = map (nearest_to ns) (wishes ws);
         nearest = each_nearest ns (wishes ws);

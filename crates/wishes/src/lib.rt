@@ -2,10 +2,10 @@
 // the keys of a list and on `nearest` for the least rank of a wish.
 #![tactic(auto)]
 
-ghost use Rattle.std.specs.Prelude.{map, ◌+◌, ◌≤◌, ◌<◌, length};
+ghost use Rattle.std.specs.Prelude.{◌≡◌, map, ◌+◌, ◌≤◌, ◌<◌, length};
 ghost use Rattle.meaning.specs.Lists.{vertices};
 ghost use Rattle.codes.specs.Keys.{of_key};
-ghost use Rattle.nearest.specs.Ranks.{Located, Rooms, few_vertices};
+ghost use Rattle.nearest.specs.Ranks.{Located, Rooms};
 ghost use Rattle.wishes.specs.Many.{ManyAnswered};
 ghost use Rattle.wishes.specs.Each.{wish_from, NearestPut, Wishable, EachPut};
 
@@ -33,25 +33,25 @@ pub enum Wished {
     NoRoom,
 }
 
-// Writes the three codes of the cell nearest to the wish from place at on to the same place; room and work are to work in.
+// Writes the three codes of the cell nearest to a wish to cells, from place at on; room and work are to work in.
 fn put_nearest(
     keys: &[u32],
     extents: Extents,
-    wishes: &[i16],
-    at: usize,
+    wish: &[i16],
     room: &mut [u32],
     work: &mut [u32],
+    at: usize,
     cells: &mut [i16],
 )
     requires located { Located keys.now extents }
     requires keys_in_bounds { (length keys.now ≤ length room.old) × (length keys.now ≤ length work.old) }
-    requires at_in_bounds { (at + 2 < length wishes.now) × (at + 2 < length cells.old) }
-    ensures { NearestPut (map of_key keys.now) (wish_from wishes.now at) at
-        cells.old cells.new }
+    requires whole { length wish.now ≡ 3 }
+    requires at_in_bounds { at + 2 < length cells.old }
+    ensures { NearestPut (map of_key keys.now) (wish_from wish.now 0) at cells.old cells.new }
 {
-    let a = codes::lift(wishes[at]) as u32;
-    let b = codes::lift(wishes[at + 1]) as u32;
-    let d = codes::lift(wishes[at + 2]) as u32;
+    let a = codes::lift(wish[0]) as u32;
+    let b = codes::lift(wish[1]) as u32;
+    let d = codes::lift(wish[2]) as u32;
     let rank = nearest::rank_of(keys, extents, a, b, d, room, work);
     cells[at] = nearest::code(rank, FOCUS_PLACE);
     cells[at + 1] = nearest::code(rank, FIRST_PLACE);
@@ -74,34 +74,23 @@ fn each_with_room(
     let n = keys::read(list, keys);
     let front = &keys[..n];
     let extents = nearest::extents_of(front);
-    let mut at = 0;
-    while at < wishes.len() {
-        put_nearest(front, extents, wishes, at, room, work, cells);
-        at += NUMBERS;
+
+    // Cells by their place: what is written through `chunks_exact_mut` is not known behind the loop.
+    for (i, wish) in wishes.chunks_exact(NUMBERS).enumerate() {
+        put_nearest(front, extents, wish, room, work, NUMBERS * i, cells);
     }
 }
 
-// The same with room of its own for few vertices.
-fn each_of_few(list: &[i16], wishes: &[i16], cells: &mut [i16])
+// The same with room of its own for ROOM vertices.
+fn each_in_room<const ROOM: usize>(list: &[i16], wishes: &[i16], cells: &mut [i16])
     requires wishable { Wishable list.now wishes.now cells.old }
-    requires list_len_bound { length (vertices list.now) ≤ few_vertices }
+    requires list_len_bound { length (vertices list.now) ≤ ROOM }
+    requires room_bound { ROOM ≤ 1024 }
     ensures { EachPut list.now wishes.now cells.old cells.new }
 {
-    let mut keys = [0u32; SMALL];
-    let mut room = [0u32; SMALL];
-    let mut work = [0u32; SMALL];
-    each_with_room(list, wishes, &mut keys, &mut room, &mut work, cells);
-}
-
-// The same with room of its own for as many vertices as a list may have.
-fn each_of_many(list: &[i16], wishes: &[i16], cells: &mut [i16])
-    requires wishable { Wishable list.now wishes.now cells.old }
-    requires list_len_bound { length (vertices list.now) ≤ 1024 }
-    ensures { EachPut list.now wishes.now cells.old cells.new }
-{
-    let mut keys = [0u32; MOST_VERTICES];
-    let mut room = [0u32; MOST_VERTICES];
-    let mut work = [0u32; MOST_VERTICES];
+    let mut keys = [0u32; ROOM];
+    let mut room = [0u32; ROOM];
+    let mut work = [0u32; ROOM];
     each_with_room(list, wishes, &mut keys, &mut room, &mut work, cells);
 }
 
@@ -111,10 +100,10 @@ pub fn each_of_map(list: &[i16], wishes: &[i16], cells: &mut [i16])
     ensures { EachPut list.now wishes.now cells.old cells.new }
 {
     if list.len() <= NUMBERS * SMALL {
-        each_of_few(list, wishes, cells);
-        return;
+        each_in_room::<SMALL>(list, wishes, cells);
+    } else {
+        each_in_room::<MOST_VERTICES>(list, wishes, cells);
     }
-    each_of_many(list, wishes, cells);
 }
 
 // The permitted cells nearest to the wishes, one for each, at the front of cells: each is the cell that `nearest` gives. The list is checked once.

@@ -62,20 +62,22 @@ said c r f e h =
     (answered c.args.list.now w r c.requires
     (subst (λ (w : Cell). Ranked (vertices c.args.list.now) w r) (λ i. cell ((on_focus c).0 i) ((on_first c).0 i) ((on_second c).0 i)) h))
 
-pub rank_of_few-requires : goal.rank_of_few-requires
-rank_of_few-requires c = record {
-  askable = ready (goal.at.rank_of_few-requires c).After-lift-d;
+pub rank_in_room-requires : goal.rank_in_room-requires
+rank_in_room-requires c = record {
+  askable = ready (goal.at.rank_in_room-requires c).After-lift-d;
   list_len_bound = omega (arith, length_vertices c.args.list.now, c.if-list.true);
+  room_bound = omega arith;
 }
 
 pub returns-then-list : goal.returns-then-list
-returns-then-list c = said (goal.at.returns-then-list c).After-lift-d c.rank_of_few.result _ c.answer.ensures c.rank_of_few.ensures.0
+returns-then-list c = said (goal.at.returns-then-list c).After-lift-d c.rank_in_room.result _ c.answer.ensures c.rank_in_room.ensures.0
 
-pub rank_of_many-requires : goal.rank_of_many-requires
-rank_of_many-requires c = record {
-  askable = ready (goal.at.rank_of_many-requires c).After-lift-d;
-  list_len_bound = few (goal.at.rank_of_many-requires c).After-lift-d;
+pub rank_in_room-requires-2 : goal.rank_in_room-requires-2
+rank_in_room-requires-2 c = record {
+  askable = ready (goal.at.rank_in_room-requires-2 c).After-lift-d;
+  list_len_bound = few (goal.at.rank_in_room-requires-2 c).After-lift-d;
+  room_bound = omega arith;
 }
 
 pub returns : goal.returns
-returns c = said (goal.at.returns c).After-lift-d c.rank_of_many.result _ c.answer-2.ensures c.rank_of_many.ensures.0
+returns c = said (goal.at.returns c).After-lift-d c.rank_in_room-2.result _ c.answer-2.ensures c.rank_in_room-2.ensures.0

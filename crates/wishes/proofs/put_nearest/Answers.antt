@@ -33,18 +33,18 @@ as_stored r place z e = stored z (r / place % 1024) (small (r / place)) e
 pub returns : goal.returns
 returns c =
     let keys = c.args.keys.now in
-    let ws = c.args.wishes.now in
+    let ws = c.args.wish.now in
     let at = c.args.at in
     let r = c.rank_of-rank.result in
-    let x = back (get_or ws at (pos 0)) _ (search rules) c.lift-a.ensures in
-    let y = back (get_or ws (at + 1) (pos 0)) _ (search rules) c.lift-b.ensures in
-    let z = back (get_or ws (at + 2) (pos 0)) _ (search rules) c.lift-d.ensures in
+    let x = back (get_or ws 0 (pos 0)) _ (search rules) c.lift-a.ensures in
+    let y = back (get_or ws 1 (pos 0)) _ (search rules) c.lift-b.ensures in
+    let z = back (get_or ws 2 (pos 0)) _ (search rules) c.lift-d.ensures in
     let h = subst (λ (w : Cell). Ranked (map of_key keys) w r) (λ i. cell (x i) (y i) (z i)) c.rank_of-rank.ensures.0 in
     let f = as_stored r 1048576 _ c.code.ensures in
     let g = as_stored r 1024 _ c.code-2.ensures in
     let k = as_stored r 1 _ c.code-3.ensures in
     record {
       found = cell_of r;
-      nearest = (ranked_nearest (map of_key keys) c.requires.located.keyed.valid (wish_from ws at) r h).0;
+      nearest = (ranked_nearest (map of_key keys) c.requires.located.keyed.valid (wish_from ws 0) r h).0;
       is = λ i. set (set (set c.args.cells.now at (f i)) (at + 1) (g i)) (at + 2) (k i);
     }
