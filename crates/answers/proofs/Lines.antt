@@ -1,17 +1,14 @@
 -- The lines that are written.
 --   four_then                          the four digits of a number, one by one, and what stands behind them
---   copied_long, copied_more, copied_all, copied_front   a line copied to a place: the length stays; one byte more; all bytes; to the front
 --   answer_at, answer_empty, answer_refused   what nearest answers of a valid list is the line of the wish
 --   answer_long, answers_long          an 05 line has 17 bytes, and n of them 17n
-use mathlib.Core.Path.{◌≡◌, sym, ◌∙◌, ap, ap₂, subst}
+use mathlib.Core.Path.{◌≡◌, sym, ◌∙◌, ap, subst}
 use mathlib.Core.Bool.{true≢false, false≢true}
 use mathlib.Core.List.{List, [], ◌∷◌, ◌++◌}
-use Prim.Native.Nat.{ℕ, zero, suc, ◌+◌, ◌*◌, ◌≤◌, ◌<◌}
+use Prim.Native.Nat.{ℕ, zero, suc, ◌*◌}
 use native.Mathlib.Omega.{arith}
-use native.Mathlib.Numerals.{add-one}
 use lib.IntN.{ℤ}
-use lib.ListN.{length, drop, set, get_or, length-append}
-use lib.Seq.{paste, paste-suc, length-paste, take-length}
+use lib.ListN.{length, get_or, length-append}
 use Rattle.meaning.specs.Numbers.{Cell, Corner, cell}
 use Rattle.meaning.specs.Lists.{vertices, permitted}
 use Rattle.meaning.specs.Verdicts.{verdict, passes}
@@ -38,25 +35,6 @@ answers_long l ws (suc n) out p =
     ap length p.is ∙
     length-append p.front p.line ∙
     omega (arith, answers_long l ws n p.front p.before, answer_long l (wish_at ws n) p.line p.last)
-
--- ---- a line copied to a place, byte by byte
-
-module _ (out line : List ℕ) (at : ℕ) (fits : at + length line ≤ length out) where
-  pub copied_long : {now : List ℕ} (i : ℕ) → i ≤ length line → now ≡ paste out at line i → length now ≡ length out
-  copied_long i h e = ap length e ∙ length-paste out at line i (omega arith) h
-
-  pub copied_more : {now : List ℕ} (i : ℕ) → i < length line → now ≡ paste out at line i → set now (at + i) (get_or line i 0) ≡ paste out at line (i + 1)
-  copied_more i h e =
-      ap (λ o. set o (at + i) (get_or line i 0)) e ∙ paste-suc out at line i 0 (omega arith) h ∙ ap (paste out at line) (sym (add-one i))
-
-  pub copied_all : {now : List ℕ} (i : ℕ) → i ≤ length line → length line ≤ i → now ≡ paste out at line i → now ≡ paste out at line (length line)
-  copied_all i h k e = let is : i ≡ length line = omega arith in e ∙ ap (paste out at line) is
-
--- a line copied to the front
-pub copied_front : (out : List ℕ) {line whole now : List ℕ} → line ≡ whole → now ≡ paste out 0 line (length line) → now ≡ whole ++ drop (length whole) out
-copied_front out {line} {whole} {now} h e =
-    let at_zero : 0 + length whole ≡ length whole = omega arith in
-    e ∙ ap (λ l. paste out 0 l (length l)) h ∙ ap₂ (λ l n. l ++ drop n out) (take-length whole) at_zero
 
 -- ---- what nearest answers, as a line
 

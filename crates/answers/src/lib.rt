@@ -38,11 +38,13 @@ pub const REFUSAL_LINE: usize = 9;
 fn four_digits(n: usize) -> [u8; DIGITS]
     ensures { result ≡ four_digits n }
 {
-    let a = frames::hex(n / FOURTH);
-    let b = frames::hex(n / THIRD);
-    let c = frames::hex(n / SECOND);
-    let d = frames::hex(n);
-    [a, b, c, d]
+    // One by one: a closure over a list of units does not know that none of them is 0.
+    [
+        frames::hex(n / FOURTH),
+        frames::hex(n / THIRD),
+        frames::hex(n / SECOND),
+        frames::hex(n),
+    ]
 }
 
 // The 06 line of a refusal.
@@ -78,27 +80,12 @@ fn empty_line() -> [u8; ANSWER_LINE]
     ]
 }
 
-// Writes a line at a place of the output.
-#[tactic(auto, using(crate::proofs::Lines::copied_more))]
-fn put(line: &[u8], at: usize, out: &mut [u8])
-    requires { at + length line.now ≤ length out.old }
-    ensures { out.new ≡
-        paste out.old at line.now (length line.now) }
-{
-    let mut i = 0;
-    while i < line.len() {
-        out[at + i] = line[i];
-        i += 1;
-    }
-}
-
 // Writes the 06 line of a refusal; answers how many bytes it has.
 pub fn refuse(number: usize, place: usize, out: &mut [u8]) -> usize
     requires { refusal_bytes ≤ length out.old }
     ensures { Filled (refusal_line number place) out.old result out.new }
 {
-    let line = refusal_line(number, place);
-    put(&line, 0, out);
+    out[..REFUSAL_LINE].copy_from_slice(&refusal_line(number, place));
     REFUSAL_LINE
 }
 
@@ -127,11 +114,10 @@ pub fn answer_all(list: &[i16], wishes: &[i16], out: &mut [u8]) -> usize
         out.old out.new }
 {
     let n = wishes.len() / NUMBERS;
-    let mut i = 0;
-    while i < n {
-        let line = answer(list, wishes, i);
-        put(&line, ANSWER_LINE * i, out);
-        i += 1;
+    for i in 0..n {
+        // By ranges: what is written through `chunks_exact_mut` is not known to a proof.
+        let at = ANSWER_LINE * i;
+        out[at..at + ANSWER_LINE].copy_from_slice(&answer(list, wishes, i));
     }
     ANSWER_LINE * n
 }

@@ -1,18 +1,14 @@
 -- Frames as bytes: a line of upper-case hexadecimal, ended by byte 0A (document 01, "Map text and the program").
 --   digit0, digit9, digit_a, digit_f, line_end    the bytes of the digits 0, 9, A and F, and of a line's end
 --   short_line, long_line      how many bytes a line of one number has, and one of three
---   digit_value               the value of an upper-case digit; 16 of any other byte
---   four_of, four_at           the number that four digits make; the four digits at a place
+--   digit_value               the value of an upper-case digit; of any other byte none
+--   four_of, four_at           the number that four digits make, none if one of them is none; the four digits at a place
 --   line_at                   a line of a tag, 0 and one digit, and so many digits more, whose 0A stands where it is due
---   one_at, three_at           the number, and the three numbers, of the frame at a place; ill formed if there is no such frame
+--   one_at, three_at           the number, and the three numbers, of the frame at a place; none if there is no such frame: it is ill formed
 --   digit_of                  the digit of a value below 16
 --   two_digits, four_digits    a number as two and as four digits
 -- A place counts the bytes before it. Tags are given by the byte of their second digit.
-use Rattle.std.specs.Prelude.{Bool, ◌&&◌, cond, List, [], ◌∷◌, ℕ, ◌+◌, ◌-◌, ◌*◌, ◌/◌, ◌%◌, ltb, leb, eqb, length, get_or}
-use Rattle.frames.specs.declared.One.{One}
-use Rattle.frames.specs.declared.One.TheVariants.{Ill, Number}
-use Rattle.frames.specs.declared.Three.{Three}
-use Rattle.frames.specs.declared.Three.TheVariants.{Ill as Ill³, Numbers}
+use Rattle.std.specs.Prelude.{Bool, ◌&&◌, cond, List, [], ◌∷◌, ℕ, ◌+◌, ◌-◌, ◌*◌, ◌/◌, ◌%◌, ltb, leb, eqb, length, get_or, Option, Some, None}
 
 abbrev pub digit0 : ℕ
 digit0 = 48
@@ -39,13 +35,18 @@ long_line = 15
 abbrev pub byte_at : List ℕ → ℕ → ℕ
 byte_at s at = get_or s at 0
 
-abbrev pub digit_value : ℕ → ℕ
-digit_value b = cond (leb digit0 b && leb b digit9) (b - digit0) (cond (leb digit_a b && leb b digit_f) (10 + (b - digit_a)) 16)
+abbrev pub digit_value : ℕ → Option ℕ
+digit_value b =
+    cond (leb digit0 b && leb b digit9) (Some (b - digit0)) (cond (leb digit_a b && leb b digit_f) (Some (10 + (b - digit_a))) None)
 
-abbrev pub four_of : ℕ → ℕ → ℕ → ℕ → One
-four_of a b c d = cond (ltb a 16 && (ltb b 16 && (ltb c 16 && ltb d 16))) (Number (((a * 16 + b) * 16 + c) * 16 + d)) Ill
+abbrev pub four_of : Option ℕ → Option ℕ → Option ℕ → Option ℕ → Option ℕ
+four_of (Some a) (Some b) (Some c) (Some d) = Some (((a * 16 + b) * 16 + c) * 16 + d)
+four_of (Some a) (Some b) (Some c) None = None
+four_of (Some a) (Some b) None d = None
+four_of (Some a) None c d = None
+four_of None b c d = None
 
-unfoldable pub four_at : List ℕ → ℕ → One
+unfoldable pub four_at : List ℕ → ℕ → Option ℕ
 four_at s at =
     four_of (digit_value (byte_at s at)) (digit_value (byte_at s (at + 1))) (digit_value (byte_at s (at + 2))) (digit_value (byte_at s (at + 3)))
 
@@ -53,17 +54,17 @@ unfoldable pub line_at : List ℕ → ℕ → ℕ → ℕ → Bool
 line_at s tag digits at =
     leb (at + digits + 3) (length s) && (eqb (byte_at s at) digit0 && (eqb (byte_at s (at + 1)) tag && eqb (byte_at s (at + 2 + digits)) line_end))
 
-abbrev pub one_at : List ℕ → ℕ → ℕ → One
-one_at s tag at = cond (line_at s tag 4 at) (four_at s (at + 2)) Ill
+abbrev pub one_at : List ℕ → ℕ → ℕ → Option ℕ
+one_at s tag at = cond (line_at s tag 4 at) (four_at s (at + 2)) None
 
-abbrev pub together : One → One → One → Three
-together (Number a) (Number b) (Number c) = Numbers a b c
-together (Number a) (Number b) Ill = Ill³
-together (Number a) Ill o = Ill³
-together Ill o p = Ill³
+abbrev pub together : Option ℕ → Option ℕ → Option ℕ → Option (ℕ × ℕ × ℕ)
+together (Some a) (Some b) (Some c) = Some (a, b, c)
+together (Some a) (Some b) None = None
+together (Some a) None o = None
+together None o p = None
 
-abbrev pub three_at : List ℕ → ℕ → ℕ → Three
-three_at s tag at = cond (line_at s tag 12 at) (together (four_at s (at + 2)) (four_at s (at + 6)) (four_at s (at + 10))) Ill³
+abbrev pub three_at : List ℕ → ℕ → ℕ → Option (ℕ × ℕ × ℕ)
+three_at s tag at = cond (line_at s tag 12 at) (together (four_at s (at + 2)) (four_at s (at + 6)) (four_at s (at + 10))) None
 
 abbrev pub digit_of : ℕ → ℕ
 digit_of d = cond (ltb d 10) (digit0 + d) (digit_a + (d - 10))

@@ -16,7 +16,7 @@
 --   vertices_begin, sum_well, sum_bad, wishes_begin    the vertices' lines, the closing line and the wishes' lines begin where they are read
 --   wish_there               a wish line that is due has a byte
 use mathlib.Core.Path.{◌≡◌, refl, sym, ◌∙◌, ap, subst}
-use mathlib.Core.Bool.{Bool, true, false, ◌&&◌, cond, true≢false}
+use mathlib.Core.Bool.{Bool, true, false, cond, true≢false}
 use mathlib.Core.List.{List}
 use Prim.Native.Nat.{ℕ, zero, suc, ◌+◌, ◌-◌, ◌*◌, ◌≤◌, ◌<◌}
 use native.Mathlib.Omega.{arith}
@@ -26,11 +26,11 @@ use lib.ListN.{length}
 use Rattle.meaning.specs.Counting.{first}
 use Rattle.meaning.proofs.First.{first_is}
 use Rattle.codes.proofs.Tests.{and_both}
-use Rattle.frames.specs.declared.One.{One}
-use Rattle.frames.specs.declared.One.TheVariants.{Ill, Number}
+use Rattle.std.specs.Prelude.{Option, Some, None, IsSome}
+use Rattle.std.proofs.lemmas.Option.{none-some}
 use Rattle.frames.specs.Frames.{digit0, line_end, long_line, byte_at, digit_value, four_of, four_at, line_at, together, one_at, three_at}
 use Rattle.reading.specs.Reading.{count_tag, vertex_tag, sum_tag, is_ill, ill_at, vertex_place, sum_place, wish_place, wish_lines}
-use Rattle.frames.proofs.FrameLaws.{Values, four_whole, one_four, three_whole}
+use Rattle.frames.proofs.FrameLaws.{four_whole, one_four, three_whole}
 
 pub record Ends (s : List ℕ) (at end : ℕ) : Type 0 where
   pub some : at < end
@@ -43,7 +43,7 @@ Begins s zero p = p ≡ 0
 Begins s (suc k) p = (q : ℕ) × Begins s k q × Ends s q p
 
 abbrev pub Digits : List ℕ → ℕ → ℕ → Type 0
-Digits s from to = (k : ℕ) → from ≤ k → k < to → digit_value (byte_at s k) < 16
+Digits s from to = (k : ℕ) → from ≤ k → k < to → IsSome (digit_value (byte_at s k))
 
 pub record Frame (s : List ℕ) (tag digits at : ℕ) : Type 0 where
   pub line : Ends s at (at + digits + 3)
@@ -71,8 +71,8 @@ begins_one s (suc k) p q (x, bx, ex) (y, by, ey) =
 -- ---- digits
 
 -- a digit is no 0A
-no_end : (b : ℕ) → digit_value b < 16 → b ≡ line_end → ⊥
-no_end b h e = let z : 16 < 16 = subst (λ x. digit_value x < 16) e h in omega arith
+no_end : (b : ℕ) → IsSome (digit_value b) → b ≡ line_end → ⊥
+no_end b h e = let z : IsSome (digit_value line_end) = subst (λ x. IsSome (digit_value x)) e h in true≢false (sym z)
 
 -- what holds at four places in a row
 four_in_a_row : (P : ℕ → Type 0) (a k : ℕ) → P a → P (a + 1) → P (a + 2) → P (a + 3) → a ≤ k → k < a + 4 → P k
@@ -85,32 +85,31 @@ four_in_a_row P a k p₀ p₁ p₂ p₃ h l = go (k - a) (omega arith)
     go (suc (suc (suc zero))) e = let same : a + 3 ≡ k = omega arith in subst P same p₃
     go (suc (suc (suc (suc j)))) e = absurd (omega arith)
 
-pub all_four : (a b c d m : ℕ) → four_of a b c d ≡ Number m → (a < 16) × (b < 16) × (c < 16) × (d < 16)
-all_four a b c d m = by (ltb a 16 && (ltb b 16 && (ltb c 16 && ltb d 16))) refl
-  where
-    by : (t : Bool) → (ltb a 16 && (ltb b 16 && (ltb c 16 && ltb d 16))) ≡ t → cond t (Number (((a * 16 + b) * 16 + c) * 16 + d)) Ill ≡ Number m
-        → (a < 16) × (b < 16) × (c < 16) × (d < 16)
-    by true h e =
-        let (x, h₁) = and_both (ltb a 16) _ h in
-        let (y, h₂) = and_both (ltb b 16) _ h₁ in
-        let (z, w) = and_both (ltb c 16) _ h₂ in
-        (ltb-true a 16 x, ltb-true b 16 y, ltb-true c 16 z, ltb-true d 16 w)
-    by false h e = let z : ◌≡◌ {A = ℕ} 0 1 = cc in absurd (omega arith)
+all_four : (a b c d : Option ℕ) (m : ℕ) → four_of a b c d ≡ Some m → IsSome a × IsSome b × IsSome c × IsSome d
+all_four (Some a) (Some b) (Some c) (Some d) m e = (refl, refl, refl, refl)
+all_four (Some a) (Some b) (Some c) None m e = absurd (none-some m e)
+all_four (Some a) (Some b) None d m e = absurd (none-some m e)
+all_four (Some a) None c d m e = absurd (none-some m e)
+all_four None b c d m e = absurd (none-some m e)
+
+the_value : (o : Option ℕ) → IsSome o → (x : ℕ) × (o ≡ Some x)
+the_value (Some x) h = (x, refl)
+the_value None h = absurd (true≢false (sym h))
 
 module _ (s : List ℕ) (at : ℕ) where
-  four_digits_lem : {m : ℕ} → four_at s at ≡ Number m → Digits s at (at + 4)
+  four_digits_lem : {m : ℕ} → four_at s at ≡ Some m → Digits s at (at + 4)
   unfolding four_at
   four_digits_lem {m} e k h l =
       let (x, y, z, w) = all_four _ _ _ _ m e in
-      four_in_a_row (λ i. digit_value (byte_at s i) < 16) at k x y z w h l
+      four_in_a_row (λ i. IsSome (digit_value (byte_at s i))) at k x y z w h l
 
-  digits_four : Digits s at (at + 4) → (m : ℕ) × (Number m ≡ four_at s at)
-  digits_four d =
-      let values : Values s at _ _ _ _ = record { one = refl; two = refl; three = refl; four = refl } in (
-        _,
-        four_whole values (d at (omega arith) (omega arith)) (d (at + 1) (omega arith) (omega arith)) (d (at + 2) (omega arith) (omega arith))
-            (d (at + 3) (omega arith) (omega arith)),
-      )
+  digits_four : Digits s at (at + 4) → (m : ℕ) × (Some m ≡ four_at s at)
+  digits_four ds =
+      let (a, ea) = the_value (digit_value (byte_at s at)) (ds at (omega arith) (omega arith)) in
+      let (b, eb) = the_value (digit_value (byte_at s (at + 1))) (ds (at + 1) (omega arith) (omega arith)) in
+      let (c, ec) = the_value (digit_value (byte_at s (at + 2))) (ds (at + 2) (omega arith) (omega arith)) in
+      let (d, ed) = the_value (digit_value (byte_at s (at + 3))) (ds (at + 3) (omega arith) (omega arith)) in
+      (((a * 16 + b) * 16 + c) * 16 + d, four_whole s at ea eb ec ed)
 
 -- ---- a line at a place
 
@@ -151,14 +150,14 @@ module _ (s : List ℕ) (tag digits at : ℕ) where
       )
 
 module _ (s : List ℕ) (tag at : ℕ) where
-  pub one_frame : (tag ≡ line_end → ⊥) → {m : ℕ} → Number m ≡ one_at s tag at → Frame s tag 4 at
+  pub one_frame : (tag ≡ line_end → ⊥) → {m : ℕ} → Some m ≡ one_at s tag at → Frame s tag 4 at
   one_frame other {m} e = by (line_at s tag 4 at) refl (sym e)
     where
-      by : (t : Bool) → line_at s tag 4 at ≡ t → cond t (four_at s (at + 2)) Ill ≡ Number m → Frame s tag 4 at
+      by : (t : Bool) → line_at s tag 4 at ≡ t → cond t (four_at s (at + 2)) None ≡ Some m → Frame s tag 4 at
       by true h k = frame_of s tag 4 at other h (four_digits_lem s (at + 2) k)
-      by false h k = let z : ◌≡◌ {A = ℕ} 0 1 = cc in absurd (omega arith)
+      by false h k = absurd (none-some m k)
 
-  pub frame_one : Frame s tag 4 at → (m : ℕ) × (Number m ≡ one_at s tag at)
+  pub frame_one : Frame s tag 4 at → (m : ℕ) × (Some m ≡ one_at s tag at)
   frame_one f =
       let (m, e) = digits_four s (at + 2) f.digit in
       (m, e ∙ one_four s tag at (line_of_lem s tag 4 at f))
@@ -166,7 +165,7 @@ module _ (s : List ℕ) (tag at : ℕ) where
   twelve : Digits s (at + 2) (at + 2 + 4) → Digits s (at + 6) (at + 6 + 4) → Digits s (at + 10) (at + 10 + 4) → Digits s (at + 2) (at + 2 + 12)
   twelve p q r k l m = go (ltb k (at + 6)) refl (ltb k (at + 10)) refl
     where
-      go : (t : Bool) → ltb k (at + 6) ≡ t → (u : Bool) → ltb k (at + 10) ≡ u → digit_value (byte_at s k) < 16
+      go : (t : Bool) → ltb k (at + 6) ≡ t → (u : Bool) → ltb k (at + 10) ≡ u → IsSome (digit_value (byte_at s k))
       go true e u f = p k l (omega (arith, ltb-true k (at + 6) e))
       go false e true f = q k (ltb-false k (at + 6) e) (omega (arith, ltb-true k (at + 10) f))
       go false e false f = r k (ltb-false k (at + 10) f) (omega arith)
@@ -174,12 +173,12 @@ module _ (s : List ℕ) (tag at : ℕ) where
   pub three_frame : (tag ≡ line_end → ⊥) → is_ill (three_at s tag at) ≡ false → Frame s tag 12 at
   three_frame other = by (line_at s tag 12 at) refl
     where
-      digits : (o p q : One) → four_at s (at + 2) ≡ o → four_at s (at + 6) ≡ p → four_at s (at + 10) ≡ q → is_ill (together o p q) ≡ false
+      digits : (o p q : Option ℕ) → four_at s (at + 2) ≡ o → four_at s (at + 6) ≡ p → four_at s (at + 10) ≡ q → is_ill (together o p q) ≡ false
           → Digits s (at + 2) (at + 2 + 12)
-      digits (Number a) (Number b) (Number c) eo ep eq h = twelve (four_digits_lem s (at + 2) eo) (four_digits_lem s (at + 6) ep) (four_digits_lem s (at + 10) eq)
-      digits (Number a) (Number b) Ill eo ep eq h = absurd (true≢false h)
-      digits (Number a) Ill q eo ep eq h = absurd (true≢false h)
-      digits Ill p q eo ep eq h = absurd (true≢false h)
+      digits (Some a) (Some b) (Some c) eo ep eq h = twelve (four_digits_lem s (at + 2) eo) (four_digits_lem s (at + 6) ep) (four_digits_lem s (at + 10) eq)
+      digits (Some a) (Some b) None eo ep eq h = absurd (true≢false h)
+      digits (Some a) None q eo ep eq h = absurd (true≢false h)
+      digits None p q eo ep eq h = absurd (true≢false h)
 
       by : (t : Bool) → line_at s tag 12 at ≡ t → is_ill (three_at s tag at) ≡ false → Frame s tag 12 at
       by true h e = frame_of s tag 12 at other h (digits _ _ _ refl refl refl (rw h at e))
@@ -190,7 +189,7 @@ module _ (s : List ℕ) (tag at : ℕ) where
       let (a, ea) = digits_four s (at + 2) (λ k h l. f.digit k h (omega arith)) in
       let (b, eb) = digits_four s (at + 6) (λ k h l. f.digit k (omega arith) (omega arith)) in
       let (c, ec) = digits_four s (at + 10) (λ k h l. f.digit k (omega arith) (omega arith)) in
-      sym (ap is_ill (three_whole s tag at (line_of_lem s tag 12 at f) ea refl eb refl ec refl))
+      sym (ap is_ill (three_whole s tag at (line_of_lem s tag 12 at f) ea eb ec))
 
 -- ---- lines by the lines before them
 
@@ -238,12 +237,12 @@ module _ (s : List ℕ) (tag start lines : ℕ) (other : tag ≡ line_end → �
 -- ---- back again: what a line is, it is where it is read
 
 module _ (s : List ℕ) (tag at k : ℕ) (from : Begins s k at) where
-  pub bad_one : (tag ≡ line_end → ⊥) → Bad s tag 4 k → Ill ≡ one_at s tag at
+  pub bad_one : (tag ≡ line_end → ⊥) → Bad s tag 4 k → None ≡ one_at s tag at
   bad_one other b = by (one_at s tag at) refl
     where
-      by : (o : One) → one_at s tag at ≡ o → Ill ≡ o
-      by Ill e = refl
-      by (Number m) e = absurd (b.none (subst (Frame s tag 4) (begins_one s k at b.place from b.begins) (one_frame s tag at other (sym e))))
+      by : (o : Option ℕ) → one_at s tag at ≡ o → None ≡ o
+      by None e = refl
+      by (Some m) e = absurd (b.none (subst (Frame s tag 4) (begins_one s k at b.place from b.begins) (one_frame s tag at other (sym e))))
 
   pub bad_three : (tag ≡ line_end → ⊥) → Bad s tag 12 k → is_ill (three_at s tag at) ≡ true
   bad_three other b = by (is_ill (three_at s tag at)) refl
@@ -268,19 +267,19 @@ module _ (s : List ℕ) (tag start lines : ℕ) (other : tag ≡ line_end → �
           subst (λ j. ill_at s tag start j ≡ false) last (well_three s tag (start + long_line * n) (lines + n) here (w n (omega arith)))
 
 -- a closing line or line 1 that is ill formed
-one_bad : (s : List ℕ) (tag at k : ℕ) → Begins s k at → Ill ≡ one_at s tag at → Bad s tag 4 k
+one_bad : (s : List ℕ) (tag at k : ℕ) → Begins s k at → None ≡ one_at s tag at → Bad s tag 4 k
 one_bad s tag at k b e =
     record {
       place = at;
       begins = b;
-      none = λ f. let m = frame_one s tag at f in let z : ◌≡◌ {A = ℕ} 0 1 = cc m.1 in omega arith;
+      none = λ f. let m = frame_one s tag at f in none-some m.0 (e ∙ sym m.1);
     }
 
 module _ (s : List ℕ) where
-  pub count_bad : Ill ≡ one_at s count_tag 0 → Bad s count_tag 4 0
+  pub count_bad : None ≡ one_at s count_tag 0 → Bad s count_tag 4 0
   count_bad e = one_bad s count_tag 0 0 refl e
 
-  module _ {n : ℕ} (en : Number n ≡ one_at s count_tag 0) where
+  module _ {n : ℕ} (en : Some n ≡ one_at s count_tag 0) where
     pub count_well : Well s count_tag 4 0
     count_well = record { place = 0; begins = refl; frame = one_frame s count_tag 0 (λ e. omega arith) en }
 
@@ -291,13 +290,13 @@ module _ (s : List ℕ) where
       pub sum_begins : Begins s (1 + n) (sum_place n)
       sum_begins = run_begins s vertex_tag vertex_place 1 (λ e. omega arith) vertices_begin n well
 
-      pub sum_bad : Ill ≡ one_at s sum_tag (sum_place n) → Bad s sum_tag 4 (1 + n)
+      pub sum_bad : None ≡ one_at s sum_tag (sum_place n) → Bad s sum_tag 4 (1 + n)
       sum_bad e = one_bad s sum_tag (sum_place n) (1 + n) sum_begins e
 
-      pub sum_well : {m : ℕ} → Number m ≡ one_at s sum_tag (sum_place n) → Well s sum_tag 4 (1 + n)
+      pub sum_well : {m : ℕ} → Some m ≡ one_at s sum_tag (sum_place n) → Well s sum_tag 4 (1 + n)
       sum_well e = record { place = sum_place n; begins = sum_begins; frame = one_frame s sum_tag (sum_place n) (λ e. omega arith) e }
 
-      pub wishes_begin : {m : ℕ} → Number m ≡ one_at s sum_tag (sum_place n) → Begins s (n + 2) (wish_place n)
+      pub wishes_begin : {m : ℕ} → Some m ≡ one_at s sum_tag (sum_place n) → Begins s (n + 2) (wish_place n)
       wishes_begin e =
           begins_at s (suc (1 + n)) (sum_place n + 4 + 3) (n + 2) (wish_place n)
           (sum_place n, sum_begins, (one_frame s sum_tag (sum_place n) (λ e. omega arith) e).line) (omega arith) (omega arith)

@@ -24,8 +24,7 @@ use Rattle.meaning.specs.declared.Verdict.{Verdict}
 use Rattle.meaning.specs.declared.Verdict.TheVariants.{Valid, NotTriples, TooMany, OutOfRange, NotRising, OddLine}
 use Rattle.meaning.proofs.First.{first_is, is_first}
 use Rattle.meaning.proofs.Checked.{passed}
-use Rattle.frames.specs.declared.One.{One}
-use Rattle.frames.specs.declared.One.TheVariants.{Ill, Number}
+use Rattle.std.specs.Prelude.{Option, Some, None}
 use Rattle.frames.specs.Frames.{line_end, long_line, one_at}
 use Rattle.reading.specs.Reading.{Text, refused, whole, count_tag, vertex_tag, sum_tag, wish_tag, ill_at, numbers_from, unless_ill}
 use Rattle.reading.specs.Reading.{too_many, ill_formed, wrong_sum, vertex_place, sum_place}
@@ -41,7 +40,7 @@ abbrev pub AllWell : List ℕ → ℕ → ℕ → ℕ → Type 0
 AllWell s tag lines n = (i : ℕ) → i < n → Well s tag 12 (lines + i)
 
 pub record Counts (s : List ℕ) (n : ℕ) : Type 0 where
-  pub count : Number n ≡ one_at s count_tag 0
+  pub count : Some n ≡ one_at s count_tag 0
   pub few : n ≤ most_vertices
 
 pub data MapTen (s : List ℕ) (p : ℕ) : Type 0 where
@@ -86,11 +85,11 @@ module _ (s : List ℕ) (p : ℕ) where
     by_sum m true e = not_verdict (verdict ns) ns p e
     by_sum m false e = not_other ill_formed wrong_sum p 0 (λ k. omega arith) e
 
-    by_closing : (o : One) → one_at s sum_tag (sum_place n) ≡ o → n ≤ first ill n → refused ill_formed p ≡ closed n ns o → MapTen s p
-    by_closing Ill eo h e =
+    by_closing : (o : Option ℕ) → one_at s sum_tag (sum_place n) ≡ o → n ≤ first ill n → refused ill_formed p ≡ closed n ns o → MapTen s p
+    by_closing None eo h e =
         let f = first_is ill n in
         at_sum n cn (same_place p (n + 2) e) (well n h) (sum_bad s cn.count (λ k l. f.before k (omega arith)) (sym eo))
-    by_closing (Number m) eo h e = absurd (by_sum m (eqb m (closing_sum n ns)) e)
+    by_closing (Some m) eo h e = absurd (by_sum m (eqb m (closing_sum n ns)) e)
 
     by_lines : (t : Bool) → ltb (first ill n) n ≡ t → refused ill_formed p ≡ cond t (refused ill_formed (2 + first ill n)) (after n) → MapTen s p
     by_lines true h e =
@@ -99,15 +98,15 @@ module _ (s : List ℕ) (p : ℕ) where
         (run_bad s vertex_tag vertex_place 1 (not_end vertex_tag (omega arith)) (vertices_begin s cn.count) n k)
     by_lines false h e = by_closing (one_at s sum_tag (sum_place n)) refl (ltb-false (first ill n) n h) e
 
-  by_many : (n : ℕ) → Number n ≡ one_at s count_tag 0 → (t : Bool) → ltb most_vertices n ≡ t
+  by_many : (n : ℕ) → Some n ≡ one_at s count_tag 0 → (t : Bool) → ltb most_vertices n ≡ t
       → refused ill_formed p ≡ cond t (refused too_many 0) (unless_ill (ill_at s vertex_tag vertex_place) n 2 (after n)) → MapTen s p
   by_many n en true h e = absurd (not_other ill_formed too_many p 0 (λ k. omega arith) e)
   by_many n en false h e =
       by_lines n (record { count = en; few = ltb-false most_vertices n h }) (ltb (first (ill_at s vertex_tag vertex_place) n) n) refl e
 
-  by_count : (o : One) → one_at s count_tag 0 ≡ o → refused ill_formed p ≡ counted s o → MapTen s p
-  by_count Ill eo e = at_count (same_place p 1 e) (count_bad s (sym eo))
-  by_count (Number n) eo e = by_many n (sym eo) (ltb most_vertices n) refl e
+  by_count : (o : Option ℕ) → one_at s count_tag 0 ≡ o → refused ill_formed p ≡ counted s o → MapTen s p
+  by_count None eo e = at_count (same_place p 1 e) (count_bad s (sym eo))
+  by_count (Some n) eo e = by_many n (sym eo) (ltb most_vertices n) refl e
 
   pub map_ten : refused ill_formed p ≡ map_text s → MapTen s p
   unfolding map_text
@@ -244,10 +243,10 @@ module _ (s : List ℕ) (n : ℕ) (from : Begins s (n + 2) (wish_place n)) where
 -- line 1 holds a count, that many lines their vertices and the next a sum, and the list is valid
 pub record Read (s : List ℕ) (ns : List ℤ) : Type 0 where
   pub count : ℕ
-  pub counts : Number count ≡ one_at s count_tag 0
+  pub counts : Some count ≡ one_at s count_tag 0
   pub lines : (k : ℕ) → k < count → ill_at s vertex_tag vertex_place k ≡ false
   pub sum : ℕ
-  pub sums : Number sum ≡ one_at s sum_tag (sum_place count)
+  pub sums : Some sum ≡ one_at s sum_tag (sum_place count)
   pub numbers : ns ≡ numbers_from s vertex_tag vertex_place count
   pub valid : verdict ns ≡ Valid
 
@@ -266,10 +265,10 @@ module _ (s : List ℕ) (ns : List ℤ) where
   through true a b next e = (refl, e)
   through false a b next e = absurd (not_refused ns a b e)
 
-  module _ (n : ℕ) (en : Number n ≡ one_at s count_tag 0) (all : n ≤ first (ill_at s vertex_tag vertex_place) n) where
-    read_closing : (o : One) → one_at s sum_tag (sum_place n) ≡ o → whole ns ≡ closed n (numbers_from s vertex_tag vertex_place n) o → Read s ns
-    read_closing Ill eo e = absurd (not_refused ns ill_formed (n + 2) e)
-    read_closing (Number m) eo e =
+  module _ (n : ℕ) (en : Some n ≡ one_at s count_tag 0) (all : n ≤ first (ill_at s vertex_tag vertex_place) n) where
+    read_closing : (o : Option ℕ) → one_at s sum_tag (sum_place n) ≡ o → whole ns ≡ closed n (numbers_from s vertex_tag vertex_place n) o → Read s ns
+    read_closing None eo e = absurd (not_refused ns ill_formed (n + 2) e)
+    read_closing (Some m) eo e =
         let ms = numbers_from s vertex_tag vertex_place n in
         let v = verdict ms in
         let f = first_is (ill_at s vertex_tag vertex_place) n in
@@ -285,9 +284,9 @@ module _ (s : List ℕ) (ns : List ℤ) where
           valid = ap verdict (same_numbers ns ms l) ∙ passed v none;
         }
 
-  read_count : (o : One) → one_at s count_tag 0 ≡ o → whole ns ≡ counted s o → Read s ns
-  read_count Ill eo e = absurd (not_refused ns ill_formed 1 e)
-  read_count (Number n) eo e =
+  read_count : (o : Option ℕ) → one_at s count_tag 0 ≡ o → whole ns ≡ counted s o → Read s ns
+  read_count None eo e = absurd (not_refused ns ill_formed 1 e)
+  read_count (Some n) eo e =
       let r = first (ill_at s vertex_tag vertex_place) n in
       let after = closed n (numbers_from s vertex_tag vertex_place n) (one_at s sum_tag (sum_place n)) in
       let (few, k) = past (ltb most_vertices n) too_many 0 (unless_ill (ill_at s vertex_tag vertex_place) n 2 after) e in

@@ -1,43 +1,33 @@
 -- The closing sum, number by number.
---   sum_more     one number more
---   sum_all      all numbers are in the sum
+--   sum_fold     the sum, taken modulo 65,536 after each number
 --   coordinates  the sum of the coordinates as integers, with their signs
 --   Congruent    two integers that are equal modulo 65,536: equal when each is raised by some times 65,536
 --   closing_sum_lem  the closing sum is below 65,536, and congruent to the count and the coordinates added up as integers (document 01: "the sum
 --                of the count and all coordinates modulo 65,536")
 --   numbers_fit  the numbers that are read have 16 bits, so that this holds of them
 use mathlib.Core.Path.{◌≡◌, refl, sym, ◌∙◌, ap, ap₂, subst}
-use mathlib.Core.Bool.{Bool, true, false, ◌&&◌, cond}
+use mathlib.Core.Bool.{Bool, true, false, cond}
 use mathlib.Core.List.{List, [], ◌∷◌, ◌++◌}
-use Prim.Native.Nat.{ℕ, zero, suc, ◌+◌, ◌-◌, ◌*◌, ◌/◌, ◌%◌, ◌≤◌, ◌<◌}
+use Prim.Native.Nat.{ℕ, zero, suc, ◌+◌, ◌-◌, ◌*◌, ◌/◌, ◌%◌, ◌<◌}
 use native.Mathlib.Omega.{arith}
-use native.Mathlib.Numerals.{add-one}
 use borrow.Author.Tests.{ltb-true, ltb-false}
 use lib.Dec.{ltb}
 use lib.IntN.{ℤ, pos, negsuc, sub_ℕ, ◌+ℤ◌, +ℤ_assoc, +ℤ_comm}
-use lib.ListN.{length, drop, get_or, drop_of_length-le}
-use lib.Seq.{drop-cons}
 use mir.Syntax.{w16}
 use mir.Val.{SFits}
 use Rattle.meaning.specs.Counting.{All}
 use Rattle.codes.proofs.Shift.{down_not, down_below}
-use Rattle.frames.specs.declared.One.{One}
-use Rattle.frames.specs.declared.One.TheVariants.{Ill, Number}
-use Rattle.frames.specs.declared.Three.TheVariants.{Ill as Ill³}
+use Rattle.std.specs.Prelude.{Option, Some, None}
+use Rattle.std.specs.List.{fold}
+use Rattle.std.proofs.lemmas.Option.{none-some}
 use Rattle.frames.specs.Frames.{long_line, byte_at, digit_value, four_of, four_at, line_at, together, three_at}
+use Rattle.frames.proofs.FrameLaws.{value_small}
 use Rattle.words.specs.Words.{word, signed}
 use Rattle.reading.specs.Reading.{numbers_of, numbers_from, total, closing_sum}
-use Rattle.reading.proofs.ByEnds.{all_four}
 
-module _ (l : List ℤ) (i sum whole : ℕ) (so_far : (sum + total (drop i l)) % 65536 ≡ whole % 65536) where
-  pub sum_more : (w : ℕ) → i < length l → w ≡ word (get_or l i (pos 0)) → ((sum + w) % 65536 + total (drop (i + 1) l)) % 65536 ≡ whole % 65536
-  sum_more w h e =
-      let next : total (drop i l) ≡ w + total (drop (i + 1) l) =
-      ap total (drop-cons l i (pos 0) h) ∙ ap (λ k. word (get_or l i (pos 0)) + total (drop k l)) (sym (add-one i)) ∙ ap (◌+ total (drop (i + 1) l)) (sym e) in
-      omega arith
-
-  pub sum_all : length l ≤ i → sum < 65536 → sum ≡ whole % 65536
-  sum_all h k = omega (arith, ap total (drop_of_length-le l h))
+pub sum_fold : (n : ℕ) (l : List ℤ) → n < 65536 → fold (λ sum z. (sum + word z) % 65536) n l ≡ closing_sum n l
+sum_fold n [] h = omega arith
+sum_fold n (z ∷ l) h = sum_fold ((n + word z) % 65536) l (omega arith) ∙ omega arith
 
 -- ---- the sum as integers
 
@@ -97,30 +87,35 @@ signed_fits n h = by (ltb n 32768) refl
     by true e = record { sfits = omega (arith, ltb-true n 32768 e) }
     by false e = subst (SFits w16) (sym (down_below n 65536 h)) (record { sfits = omega (arith, ltb-false n 32768 e) })
 
-number_small : (a b c d m : ℕ) → four_of a b c d ≡ Number m → m < 65536
-number_small a b c d m e = by (ltb a 16 && (ltb b 16 && (ltb c 16 && ltb d 16))) (all_four a b c d m e) e
+number_small : (p q r t m : ℕ) → four_of (digit_value p) (digit_value q) (digit_value r) (digit_value t) ≡ Some m → m < 65536
+number_small p q r t m = by (digit_value p) (digit_value q) (digit_value r) (digit_value t) refl refl refl refl
   where
-    by : (t : Bool) → (a < 16) × (b < 16) × (c < 16) × (d < 16) → cond t (Number (((a * 16 + b) * 16 + c) * 16 + d)) Ill ≡ Number m → m < 65536
-    by true h e = let is : ((a * 16 + b) * 16 + c) * 16 + d ≡ m = cc in omega (arith, h.0, h.1, h.2, h.3)
-    by false h e = let z : ◌≡◌ {A = ℕ} 0 1 = cc in absurd (omega arith)
+    by : (a b c d : Option ℕ) → digit_value p ≡ a → digit_value q ≡ b → digit_value r ≡ c → digit_value t ≡ d → four_of a b c d ≡ Some m → m < 65536
+    by (Some a) (Some b) (Some c) (Some d) ea eb ec ed e =
+        let is : ((a * 16 + b) * 16 + c) * 16 + d ≡ m = cc in
+        omega (arith, value_small p a (sym ea), value_small q b (sym eb), value_small r c (sym ec), value_small t d (sym ed))
+    by (Some a) (Some b) (Some c) None ea eb ec ed e = absurd (none-some m e)
+    by (Some a) (Some b) None d ea eb ec ed e = absurd (none-some m e)
+    by (Some a) None c d ea eb ec ed e = absurd (none-some m e)
+    by None b c d ea eb ec ed e = absurd (none-some m e)
 
 module _ (s : List ℕ) (tag : ℕ) where
-  four_fits : (at m : ℕ) → four_at s at ≡ Number m → SFits w16 (signed m)
+  four_fits : (at m : ℕ) → four_at s at ≡ Some m → SFits w16 (signed m)
   unfolding four_at
   four_fits at m e =
       signed_fits m
-      (number_small (digit_value (byte_at s at)) (digit_value (byte_at s (at + 1))) (digit_value (byte_at s (at + 2))) (digit_value (byte_at s (at + 3))) m e)
+      (number_small (byte_at s at) (byte_at s (at + 1)) (byte_at s (at + 2)) (byte_at s (at + 3)) m e)
 
   frame_fits : (at : ℕ) → All (SFits w16) (numbers_of (three_at s tag at))
   frame_fits at = by (line_at s tag 12 at)
     where
-      parts : (o p q : One) → four_at s (at + 2) ≡ o → four_at s (at + 6) ≡ p → four_at s (at + 10) ≡ q → All (SFits w16) (numbers_of (together o p q))
-      parts (Number a) (Number b) (Number c) eo ep eq = (four_fits (at + 2) a eo, (four_fits (at + 6) b ep, (four_fits (at + 10) c eq, tt)))
-      parts (Number a) (Number b) Ill eo ep eq = tt
-      parts (Number a) Ill q eo ep eq = tt
-      parts Ill p q eo ep eq = tt
+      parts : (o p q : Option ℕ) → four_at s (at + 2) ≡ o → four_at s (at + 6) ≡ p → four_at s (at + 10) ≡ q → All (SFits w16) (numbers_of (together o p q))
+      parts (Some a) (Some b) (Some c) eo ep eq = (four_fits (at + 2) a eo, (four_fits (at + 6) b ep, (four_fits (at + 10) c eq, tt)))
+      parts (Some a) (Some b) None eo ep eq = tt
+      parts (Some a) None q eo ep eq = tt
+      parts None p q eo ep eq = tt
 
-      by : (t : Bool) → All (SFits w16) (numbers_of (cond t (together (four_at s (at + 2)) (four_at s (at + 6)) (four_at s (at + 10))) Ill³))
+      by : (t : Bool) → All (SFits w16) (numbers_of (cond t (together (four_at s (at + 2)) (four_at s (at + 6)) (four_at s (at + 10))) None))
       by true = parts (four_at s (at + 2)) (four_at s (at + 6)) (four_at s (at + 10)) refl refl refl
       by false = tt
 

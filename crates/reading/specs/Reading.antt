@@ -2,7 +2,7 @@
 --   count_tag, vertex_tag, sum_tag, wish_tag   the second digits of the tags 01, 02, 03 and 04, as bytes
 --   too_many, ill_formed, wrong_sum, too_long  document 01's numbers of the text's refusals: 2, 10, 11 and 12
 --   Text                        what reading comes to: refused, with document 01's number and place; or the numbers read
---   is_ill, numbers_of            of a frame of three numbers: ill formed; its numbers, in two's complement
+--   is_ill, numbers_of            of a frame of three numbers: ill formed, where there are none; its numbers, in two's complement
 --   ill_at, numbers_from          the same of frame i of a run that begins at a place, and of the first n frames
 --   unless_ill                   refused 10 at the first ill formed line of a run, if there is one
 --   closing_sum                  the sum of the count and all coordinates modulo 65,536
@@ -11,16 +11,12 @@
 --   map_text                     the text of a map
 --   wish_place, wish_lines        where the wishes begin; how many lines there are from there on
 --   most_wishes, wish_text        the most wishes; the text of the wishes
-use Rattle.std.specs.Prelude.{Bool, true, false, ◌||◌, cond, List, [], ◌∷◌, ◌++◌, ℕ, zero, suc, ◌+◌, ◌-◌, ◌*◌, ◌/◌, ◌%◌, ltb, leb, eqb, ℤ, length}
+use Rattle.std.specs.Prelude.{Bool, true, false, ◌||◌, cond, List, [], ◌∷◌, ◌++◌, ℕ, zero, suc, ◌+◌, ◌-◌, ◌*◌, ◌/◌, ◌%◌, ltb, leb, eqb, ℤ, length, Option, Some, None}
 use Rattle.meaning.specs.Counting.{first}
 use Rattle.meaning.specs.Lists.{most_vertices}
 use Rattle.meaning.specs.Verdicts.{verdict, passes, refusal_number, refusal_place}
 use Rattle.meaning.specs.declared.Verdict.{Verdict}
 use Rattle.meaning.specs.declared.Verdict.TheVariants.{TooMany}
-use Rattle.frames.specs.declared.One.{One}
-use Rattle.frames.specs.declared.One.TheVariants.{Ill as Ill¹, Number}
-use Rattle.frames.specs.declared.Three.{Three}
-use Rattle.frames.specs.declared.Three.TheVariants.{Ill, Numbers}
 use Rattle.frames.specs.Frames.{digit0, short_line, long_line, one_at, three_at}
 use Rattle.words.specs.Words.{all_words, word, signed}
 
@@ -54,13 +50,13 @@ pub data Text : Type 0 where
 
 -- ---- runs of frames of three numbers
 
-abbrev pub is_ill : Three → Bool
-is_ill Ill = true
-is_ill (Numbers a b c) = false
+abbrev pub is_ill : Option (ℕ × ℕ × ℕ) → Bool
+is_ill None = true
+is_ill (Some v) = false
 
-abbrev pub numbers_of : Three → List ℤ
-numbers_of Ill = []
-numbers_of (Numbers a b c) = signed a ∷ signed b ∷ signed c ∷ []
+abbrev pub numbers_of : Option (ℕ × ℕ × ℕ) → List ℤ
+numbers_of None = []
+numbers_of (Some v) = signed v.0 ∷ signed v.1 ∷ signed v.2 ∷ []
 
 abbrev pub ill_at : List ℕ → ℕ → ℕ → ℕ → Bool
 ill_at s tag start i = is_ill (three_at s tag (start + long_line * i))
@@ -86,9 +82,9 @@ abbrev pub by_verdict : List ℤ → Verdict → Text
 by_verdict ns v = cond (passes v) (whole ns) (refused (refusal_number v) (refusal_place v))
 
 -- 10 at its line, the one after the vertices; 11; 3, 4, 5
-abbrev pub closed : ℕ → List ℤ → One → Text
-closed n ns Ill¹ = refused ill_formed (n + 2)
-closed n ns (Number m) = cond (eqb m (closing_sum n ns)) (by_verdict ns (verdict ns)) (refused wrong_sum 0)
+abbrev pub closed : ℕ → List ℤ → Option ℕ → Text
+closed n ns None = refused ill_formed (n + 2)
+closed n ns (Some m) = cond (eqb m (closing_sum n ns)) (by_verdict ns (verdict ns)) (refused wrong_sum 0)
 
 abbrev pub vertex_place : ℕ
 vertex_place = short_line
@@ -97,9 +93,9 @@ abbrev pub sum_place : ℕ → ℕ
 sum_place n = vertex_place + long_line * n
 
 -- 10 at line 1; 2; 10 at the lines of the vertices
-abbrev pub counted : List ℕ → One → Text
-counted s Ill¹ = refused ill_formed 1
-counted s (Number n) =
+abbrev pub counted : List ℕ → Option ℕ → Text
+counted s None = refused ill_formed 1
+counted s (Some n) =
     cond (ltb most_vertices n) (refused too_many 0)
     (unless_ill (ill_at s vertex_tag vertex_place) n 2 (closed n (numbers_from s vertex_tag vertex_place n) (one_at s sum_tag (sum_place n))))
 

@@ -5,9 +5,9 @@
 ghost use Rattle.std.specs.Prelude.{◌≡◌, ◌*◌, ◌≤◌, List, ℤ, length, take};
 ghost use Rattle.meaning.specs.Counting.{first};
 ghost use Rattle.reading.specs.Reading.{ill_at, numbers_from, closing_sum, by_verdict, counted, map_text, wish_text};
-ghost use Rattle.reading.specs.Read.{meant, AtMost};
+ghost use Rattle.reading.specs.Read.{refused_number, refused_place, meant, AtMost};
 
-use frames::{NUMBERS, One, Three};
+use frames::NUMBERS;
 use meaning::{MOST_VERTICES, Verdict};
 
 // The tags' second digits: a count, a vertex, a closing sum, a wish.
@@ -33,9 +33,6 @@ pub const MAP_NUMBERS: usize = NUMBERS * MOST_VERTICES;
 // The most numbers of wishes.
 pub const WISH_NUMBERS: usize = NUMBERS * MOST_WISHES;
 
-// How many numbers four digits can make.
-const WORDS: usize = 65536;
-
 // The line of the first vertex; how far behind the count of vertices the closing line's number lies, and the first wish's.
 const VERTEX_LINE: usize = 2;
 
@@ -43,28 +40,55 @@ const CLOSING_LINE: usize = 2;
 
 const WISH_LINE: usize = 3;
 
-// Document 01's numbers of the refusals.
-const NOT_TRIPLES: usize = 1;
+// The line of the count.
+const COUNT_LINE: usize = 1;
 
-const TOO_MANY: usize = 2;
+// Why a text is refused.
+#[derive(Clone, Copy, Debug, PartialEq, Eq)]
+pub enum Refused {
+    // The numbers of the vertices are not a multiple of three.
+    NotTriples,
+    // More vertices than a map may have.
+    TooMany,
+    // The first vertex that has a number outside the corner numbers.
+    OutOfRange(usize),
+    // The first vertex that does not stand above the one before it.
+    NotRising(usize),
+    // The first vertex that stands on a line with an odd number of vertices.
+    OddLine(usize),
+    // The line, from 1, that is ill formed.
+    IllFormed(usize),
+    // The closing sum is wrong.
+    WrongSum,
+}
 
-const OUT_OF_RANGE: usize = 3;
+impl Refused {
+    // Document 01's number of it.
+    pub fn number(self) -> usize
+        ensures { result ≡ refused_number self }
+    {
+        match self {
+            Refused::NotTriples => 1,
+            Refused::TooMany => 2,
+            Refused::OutOfRange(_) => 3,
+            Refused::NotRising(_) => 4,
+            Refused::OddLine(_) => 5,
+            Refused::IllFormed(_) => 10,
+            Refused::WrongSum => 11,
+        }
+    }
 
-const NOT_RISING: usize = 4;
-
-const ODD_LINE: usize = 5;
-
-const ILL_FORMED: usize = 10;
-
-const WRONG_SUM: usize = 11;
-
-// What reading comes to.
-#[derive(Clone, Copy)]
-pub enum Read {
-    // Refused: document 01's number, and the place.
-    Refused(usize, usize),
-    // How many frames of three numbers were read; their numbers stand at the front of the list.
-    Whole(usize),
+    // The place that goes with it: a vertex, a line, or 0 where there is none to name.
+    pub fn place(self) -> usize
+        ensures { result ≡ refused_place self }
+    {
+        match self {
+            Refused::OutOfRange(place) | Refused::NotRising(place) | Refused::OddLine(place) =>
+                place,
+            Refused::IllFormed(line) => line,
+            Refused::NotTriples | Refused::TooMany | Refused::WrongSum => 0,
+        }
+    }
 }
 
 // Reads n frames of three numbers from a place on into the list; answers the first that is ill formed, or n.
@@ -74,103 +98,92 @@ fn frames_from(s: &[u8], tag: u8, start: usize, n: usize, list: &mut [i16]) -> u
     ensures value { result ≡ first (ill_at s.now tag start) n }
     ensures list_after { take (3 * result) list.new ≡ numbers_from s.now tag start result }
 {
-    let mut i = 0;
-    while i < n {
-        let Three::Numbers(a, b, c) = frames::numbers_at(s, tag, start + LONG_LINE * i) else {
+    for i in 0..n {
+        let Some((a, b, c)) = frames::numbers_at(s, tag, start + LONG_LINE * i) else {
             return i;
         };
-        list[NUMBERS * i] = words::signed(a);
-        list[NUMBERS * i + 1] = words::signed(b);
-        list[NUMBERS * i + 2] = words::signed(c);
-        i += 1;
+        // By ranges: what the list holds behind `chunks_exact_mut` is not known to a proof.
+        list[NUMBERS * i..NUMBERS * (i + 1)].copy_from_slice(&[
+            words::signed(a),
+            words::signed(b),
+            words::signed(c),
+        ]);
     }
     n
 }
 
 // The sum of a count and all numbers of a list modulo 65,536.
-fn closing_sum(n: usize, list: &[i16]) -> usize
-    requires { n ≤ 1024 }
+fn closing_sum(n: u16, list: &[i16]) -> u16
     ensures { result ≡ closing_sum n list.now }
 {
-    let mut sum = n;
-    let mut i = 0;
-    while i < list.len() {
-        sum = (sum + words::word(list[i]) as usize) % WORDS;
-        i += 1;
-    }
-    sum
+    list.iter()
+        .fold(n, |sum, x| sum.wrapping_add(words::word(*x)))
 }
 
 // What the verdict on n vertices comes to.
-fn by_verdict(verdict: Verdict, n: usize) -> Read
+fn by_verdict(verdict: Verdict, n: usize) -> Result<usize, Refused>
     requires { n ≤ 1024 }
     ensures means { (l : List ℤ) → meant result l ≡ by_verdict (take (3 * n) l) verdict }
     ensures at_most { AtMost 1024 result }
 {
     match verdict {
-        Verdict::Valid => Read::Whole(n),
-        Verdict::NotTriples => Read::Refused(NOT_TRIPLES, 0),
-        Verdict::TooMany => Read::Refused(TOO_MANY, 0),
-        Verdict::OutOfRange(place) => Read::Refused(OUT_OF_RANGE, place),
-        Verdict::NotRising(place) => Read::Refused(NOT_RISING, place),
-        Verdict::OddLine(place) => Read::Refused(ODD_LINE, place),
+        Verdict::Valid => Ok(n),
+        Verdict::NotTriples => Err(Refused::NotTriples),
+        Verdict::TooMany => Err(Refused::TooMany),
+        Verdict::OutOfRange(place) => Err(Refused::OutOfRange(place)),
+        Verdict::NotRising(place) => Err(Refused::NotRising(place)),
+        Verdict::OddLine(place) => Err(Refused::OddLine(place)),
     }
 }
 
-// Reads the lines of n vertices and the closing line, behind a count of n, into the list.
+// Reads the lines of as many vertices as are counted and the closing line into the list.
 #[tactic(auto, unfolding(meaning::specs::Lists::most_vertices), using(crate::proofs::Order::count_ill_vertex, crate::proofs::Order::count_ill_sum, crate::proofs::Order::sum_wrong, crate::proofs::Runs::all_read))]
-fn read_counted(s: &[u8], n: usize, list: &mut [i16]) -> Read
-    requires n_bound { n ≤ 1024 }
-    requires n_in_bounds { 3 * n ≤ length list.old }
-    ensures list_after { meant result list.new ≡ counted s.now (One.Number n) }
+fn read_counted(s: &[u8], count: u16, list: &mut [i16]) -> Result<usize, Refused>
+    requires count_bound { count ≤ 1024 }
+    requires count_in_bounds { 3 * count ≤ length list.old }
+    ensures list_after { meant result list.new ≡ counted s.now (Some count) }
     ensures at_most { AtMost 1024 result }
 {
+    let n = usize::from(count);
     let ill = frames_from(s, VERTEX_TAG, SHORT_LINE, n, list);
     if ill < n {
-        return Read::Refused(ILL_FORMED, VERTEX_LINE + ill);
+        return Err(Refused::IllFormed(VERTEX_LINE + ill));
     }
-    let One::Number(sum) = frames::number_at(s, SUM_TAG, SHORT_LINE + LONG_LINE * n) else {
-        return Read::Refused(ILL_FORMED, n + CLOSING_LINE);
-    };
-    let end = NUMBERS * n;
-    if sum as usize != closing_sum(n, &list[..end]) {
-        return Read::Refused(WRONG_SUM, 0);
+    let at = SHORT_LINE + LONG_LINE * n;
+    let sum = frames::number_at(s, SUM_TAG, at).ok_or(Refused::IllFormed(n + CLOSING_LINE))?;
+    let numbers = &list[..NUMBERS * n];
+    if sum != closing_sum(count, numbers) {
+        return Err(Refused::WrongSum);
     }
-    by_verdict(lists::check(&list[..end]), n)
+    by_verdict(lists::check(numbers), n)
 }
 
 // Reads the text of a map, up to its closing line, into the list.
 #[tactic(auto, unfolding(crate::specs::Reading::map_text, meaning::specs::Lists::most_vertices))]
-pub fn read_map(s: &[u8], list: &mut [i16]) -> Read
+pub fn read_map(s: &[u8], list: &mut [i16]) -> Result<usize, Refused>
     requires { 3072 ≤ length list.old }
     ensures list_after { meant result list.new ≡ map_text s.now }
     ensures at_most { AtMost 1024 result }
 {
-    let One::Number(count) = frames::number_at(s, COUNT_TAG, 0) else {
-        return Read::Refused(ILL_FORMED, 1);
-    };
-    let n = count as usize;
-    if MOST_VERTICES < n {
-        return Read::Refused(TOO_MANY, 0);
+    let count = frames::number_at(s, COUNT_TAG, 0).ok_or(Refused::IllFormed(COUNT_LINE))?;
+    if MOST_VERTICES < usize::from(count) {
+        return Err(Refused::TooMany);
     }
-    read_counted(s, n, list)
+    read_counted(s, count, list)
 }
 
 // Reads the wishes behind a map of n vertices into the list.
-pub fn read_wishes(s: &[u8], n: usize, list: &mut [i16]) -> Read
+pub fn read_wishes(s: &[u8], n: usize, list: &mut [i16]) -> Result<usize, Refused>
     requires n_bound { n ≤ 1024 }
     requires in_bounds { 768 ≤ length list.old }
     ensures list_after { meant result list.new ≡ wish_text s.now n }
     ensures at_most { AtMost 256 result }
 {
     let start = SHORT_LINE + LONG_LINE * n + SHORT_LINE;
-    if s.len() <= start {
-        return Read::Whole(0);
-    }
-    let due = (s.len() - start + LONG_LINE - 1) / LONG_LINE;
-    let ill = frames_from(s, WISH_TAG, start, codes::lesser(due, MOST_WISHES), list);
+    let due = s.len().saturating_sub(start).div_ceil(LONG_LINE);
+    let ill = frames_from(s, WISH_TAG, start, due.min(MOST_WISHES), list);
     if ill < due {
-        return Read::Refused(ILL_FORMED, n + WISH_LINE + ill);
+        return Err(Refused::IllFormed(n + WISH_LINE + ill));
     }
-    Read::Whole(due)
+    Ok(due)
 }

@@ -10,7 +10,7 @@ ghost use Rattle.text.specs.Program.{with_wishes, Put, Responds};
 use answers::ANSWER_LINE;
 use frames::NUMBERS;
 use meaning::{MOST_VERTICES, Verdict};
-use reading::{LONG_LINE, MAP_NUMBERS, MOST_WISHES, Read, SHORT_LINE, WISH_NUMBERS};
+use reading::{LONG_LINE, MAP_NUMBERS, MOST_WISHES, SHORT_LINE, WISH_NUMBERS};
 
 // The most bytes of input: the lines of a full map and of the most wishes.
 pub const MOST_BYTES: usize = 2 * SHORT_LINE + LONG_LINE * (MOST_VERTICES + MOST_WISHES);
@@ -32,11 +32,8 @@ fn answer_wishes(input: &[u8], n: usize, list: &[i16], out: &mut [u8]) -> usize
 {
     let mut wishes = [0i16; WISH_NUMBERS];
     match reading::read_wishes(input, n, &mut wishes) {
-        Read::Refused(number, place) => answers::refuse(number, place, out),
-        Read::Whole(count) => {
-            let end = NUMBERS * count;
-            answers::answer_all(list, &wishes[..end], out)
-        }
+        Ok(count) => answers::answer_all(list, &wishes[..NUMBERS * count], out),
+        Err(refused) => answers::refuse(refused.number(), refused.place(), out),
     }
 }
 
@@ -50,10 +47,7 @@ pub fn respond(input: &[u8], out: &mut [u8; MOST_WRITTEN]) -> usize
     }
     let mut list = [0i16; MAP_NUMBERS];
     match reading::read_map(input, &mut list) {
-        Read::Refused(number, place) => answers::refuse(number, place, out),
-        Read::Whole(n) => {
-            let end = NUMBERS * n;
-            answer_wishes(input, n, &list[..end], out)
-        }
+        Ok(n) => answer_wishes(input, n, &list[..NUMBERS * n], out),
+        Err(refused) => answers::refuse(refused.number(), refused.place(), out),
     }
 }

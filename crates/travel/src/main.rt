@@ -20,6 +20,7 @@ fn read_full<R: Read>(input: &mut R, room: &mut [u8]) -> (usize, io::Result<()>)
     ensures whole { OnOk result.1 ((result.0 ≡ length room.new) ⊎ IsAtEnd (R.remaining input.new)) }
 {
     let mut done = 0;
+    // A count that each turn moves by as many bytes as the reader gives: no iterator walks so.
     while done < room.len() {
         match input.read(&mut room[done..]) {
             Ok(0) => return (done, Ok(())),

@@ -7,14 +7,14 @@ use Rattle.reading.proofs.Runs.{run_more, run_stop, run_all}
 use Rattle.reading.proofs.frames_from.Goals as goal
 
 pub returns-in_default-clause-value : goal.returns-in_default-clause-value
-returns-in_default-clause-value c = run_stop _ _ _ _ c.loop-i.invariant (omega arith) c.in_default.ensures
+returns-in_default-clause-value c = run_stop _ _ _ c.args.n c.loop-i.invariant (omega arith) c.in_default.ensures
 
 pub loop-i-preserved : goal.loop-i-preserved
 loop-i-preserved c =
-    run_more _ _ _ _ _ _ _ _ _ _ c.loop-i.invariant c.loop-i-test.true c.requires.n_in_bounds c.in-Numbers.ensures
+    run_more _ _ _ _ c.loop-i.invariant (omega arith) c.in-Some.ensures c.copy_from_slice.ensures.after
     (to_z-of_z w16 _ (record { sfits = c.signed.type_inv }) ∙ c.signed.ensures)
     (to_z-of_z w16 _ (record { sfits = c.signed-in-loop-i.type_inv }) ∙ c.signed-in-loop-i.ensures)
     (to_z-of_z w16 _ (record { sfits = c.signed-in-loop-i-2.type_inv }) ∙ c.signed-in-loop-i-2.ensures)
 
 pub returns-clause-value : goal.returns-clause-value
-returns-clause-value c = (run_all _ _ _ _ c.loop-i.invariant c.loop-i-test.false).0
+returns-clause-value c = (run_all _ _ _ c.args.n c.loop-i.invariant (omega arith) (omega arith)).0

@@ -1,27 +1,21 @@
--- `reading::read_wishes` meets its contract: no line; a line that is ill formed; or all of them.
+-- `reading::read_wishes` meets its contract: a line that is ill formed; or all of them.
 use mathlib.Core.Path.{◌≡◌, ap, ◌∙◌}
-use Prim.Native.Nat.{ℕ, ◌+◌, ◌-◌, ◌/◌, min}
+use Prim.Native.Nat.{min}
 use native.Mathlib.Omega.{arith}
-use lib.ListN.{length}
 use Rattle.meaning.specs.Counting.{first}
-use Rattle.frames.specs.Frames.{long_line}
 use Rattle.reading.specs.Reading.{wish_tag, ill_at, wish_place, wish_lines}
-use Rattle.reading.proofs.Order.{wish_none, wish_ill, wish_all, wish_few}
+use Rattle.reading.proofs.Order.{wish_ill, wish_all, wish_few}
 use Rattle.reading.proofs.read_wishes.Goals as goal
 use Rattle.reading.proofs.read_wishes.Goals.{After-frames_from-ill}
 
-abbrev due : After-frames_from-ill → ℕ
-due f = (length f.args.s.now - wish_place f.args.n + long_line - 1) / long_line
-
-are_due : (f : After-frames_from-ill) → due f ≡ wish_lines f.args.s.now f.args.n
+are_due : (f : After-frames_from-ill) → f.div_ceil-due.result ≡ wish_lines f.args.s.now f.args.n
 are_due f = omega arith
 
 -- the first ill formed line of those that can be wishes
-found : (f : After-frames_from-ill) → f.frames_from-ill.result ≡ first (ill_at f.args.s.now wish_tag (wish_place f.args.n)) (min (due f) 256)
-found f = f.frames_from-ill.ensures.value ∙ ap (first (ill_at f.args.s.now wish_tag (wish_place f.args.n))) f.lesser.ensures
-
-pub returns-then-s-start-clause-list_after : goal.returns-then-s-start-clause-list_after
-returns-then-s-start-clause-list_after c = wish_none _ _ c.if-s-start.true
+found : (f : After-frames_from-ill) → f.frames_from-ill.result ≡ first (ill_at f.args.s.now wish_tag (wish_place f.args.n)) (min f.div_ceil-due.result 256)
+found f =
+    let most : f.min.result ≡ min f.div_ceil-due.result 256 = grind arith in
+    f.frames_from-ill.ensures.value ∙ ap (first (ill_at f.args.s.now wish_tag (wish_place f.args.n))) most
 
 pub returns-then-ill-due-clause-list_after : goal.returns-then-ill-due-clause-list_after
 returns-then-ill-due-clause-list_after c =

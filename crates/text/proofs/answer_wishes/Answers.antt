@@ -6,8 +6,8 @@ use Rattle.text.proofs.Outcomes.{wishes_answered}
 use Rattle.text.proofs.answer_wishes.Goals as goal
 
 -- the answers have room
-pub returns-in-Whole : goal.returns-in-Whole
-returns-in-Whole c =
-    let few = c.in-Whole.ensures.at_most in
-    let long = length-take-le (3 * c.in-Whole.count) c.read_wishes.new.list (omega arith) in
-    wishes_answered _ c.in-Whole.ensures.list_after c.answer_all.ensures.value (omega arith) c.answer_all.ensures.written
+pub returns-in-Ok : goal.returns-in-Ok
+returns-in-Ok c =
+    let few = c.in-Ok.ensures.at_most in
+    let long = length-take-le (3 * c.in-Ok.count) c.read_wishes.new.list (omega arith) in
+    wishes_answered _ c.in-Ok.ensures.list_after c.answer_all.ensures.value (omega arith) c.answer_all.ensures.written

@@ -4,4 +4,4 @@ use Rattle.text.proofs.respond.Goals as goal
 
 -- a map that is read whole is valid
 pub answer_wishes-requires-clause-valid : goal.answer_wishes-requires-clause-valid
-answer_wishes-requires-clause-valid c = (map_read _ _ c.in-Whole.ensures.list_after).valid
+answer_wishes-requires-clause-valid c = (map_read _ _ c.in-Ok.ensures.list_after).valid
