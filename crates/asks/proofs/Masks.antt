@@ -12,7 +12,8 @@ use lib.Bits.{bit_and, bit_xor, and_step, xor_step, differ}
 use lib.IntN.{ℤ, pred_ℤ}
 use lib.Signed.{le_z}
 use lib.ListN.{length, drop}
-use Rattle.meaning.specs.Numbers.{Cell, Corner}
+use Rattle.meaning.specs.declared.Cell.{Cell}
+use Rattle.meaning.specs.declared.Corner.{Corner}
 use Rattle.meaning.specs.Lists.{vertices, at_or_below, permitted, surrounding, weigh, mask}
 use Rattle.meaning.proofs.Parity.{◌⊕◌, ⊕_false, ⊕_assoc}
 use Rattle.meaning.proofs.Integers.{lt_z_le_z}

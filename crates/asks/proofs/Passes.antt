@@ -21,7 +21,8 @@ use lib.Seq.{drop-cons}
 use mir.Syntax.{w16}
 use mir.Val.{SFits, to_z, of_z}
 use mir.ValLaws.{to_z-of_z}
-use Rattle.meaning.specs.Numbers.{Cell, Corner}
+use Rattle.meaning.specs.declared.Cell.{Cell}
+use Rattle.meaning.specs.declared.Corner.{Corner}
 use Rattle.meaning.specs.Lists.{vertices, at_or_below, permitted}
 use Rattle.meaning.proofs.Parity.{◌⊕◌, ⊕_false, ⊕_assoc, odd_count}
 use Rattle.codes.specs.Lift.{lifted, lowered}

@@ -7,7 +7,9 @@
 --   under, leading               a vertex with a focus number below a bound; how many vertices pass a test before the first that does not
 use Rattle.std.specs.Prelude.{◌≡◌, Bool, true, false, cond, List, [], ◌∷◌, map, ℕ, zero, suc, ◌+◌, ◌<◌, ltb, ℤ, pos, get_or}
 use Rattle.std.specs.Int.Signed.{le_z}
-use Rattle.meaning.specs.Numbers.{Cell, Corner, cell, corner}
+use Rattle.meaning.specs.Numbers.{cell, corner}
+use Rattle.meaning.specs.declared.Cell.{Cell}
+use Rattle.meaning.specs.declared.Corner.{Corner}
 use Rattle.meaning.specs.Lists.{at_or_below, beside, surrounding, weigh}
 use Rattle.codes.specs.Lift.{lifted, lowered}
 

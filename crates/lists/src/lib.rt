@@ -1,16 +1,20 @@
 // The check of a list. It relies on `codes` for numbers and keys and on `lines` for odd lines.
 #![tactic(auto)]
 
+mod map;
+
 ghost use Rattle.std.specs.Prelude.{◌≡◌, true, ◌+◌, ◌*◌, ◌<◌, ◌≤◌, pos, length, get_or};
-ghost use Rattle.meaning.specs.Numbers.{Axis, is_number, is_corner};
+ghost use Rattle.meaning.specs.Numbers.{Axis, second, is_number, is_corner};
 ghost use Rattle.meaning.specs.Counting.{first};
 ghost use Rattle.meaning.specs.Lists.{vertices, most_vertices};
-ghost use Rattle.meaning.specs.Verdicts.{outside_at, falls_at, on_odd_line_at, passes};
+ghost use Rattle.meaning.specs.Verdicts.{outside_at, falls_at, on_odd_line_at};
 ghost use Rattle.codes.specs.Keys.{corner_at};
 ghost use Rattle.lists.specs.Check.{Checked, AllNumbers, InRange, AllRise, Offsets, pair_at, Filled, first_on};
 
 use codes::{HIGHEST, LINE, LOWEST};
-use meaning::{MOST_VERTICES, Verdict};
+pub use map::TravelMap;
+
+use meaning::{MOST_VERTICES, Refusal};
 
 // The numbers of a vertex.
 const NUMBERS: usize = 3;
@@ -125,7 +129,7 @@ fn fill(list: &[i16], a: usize, b: usize, keys: &mut [u32])
 // Whether the vertices lie two by two on lines of the second shift, so that each such line is even. No early end: several are tested at once.
 fn in_pairs(list: &[i16]) -> bool
     requires { InRange list.now }
-    ensures { result ≡ true → length (vertices list.now) ≡ first_on Axis.second (vertices list.now) }
+    ensures { result ≡ true → length (vertices list.now) ≡ first_on second (vertices list.now) }
 {
     let n = list.len() / NUMBERS;
     let mut good = true;
@@ -153,7 +157,7 @@ fn first_along_second(list: &[i16], keys: &mut [u32]) -> usize
     requires in_range { InRange list.now }
     requires list_in_bounds { length (vertices list.now) ≤ length keys.old }
     requires list_len_bound { length (vertices list.now) ≤ most_vertices }
-    ensures { result ≡ first_on Axis.second (vertices list.now) }
+    ensures { result ≡ first_on second (vertices list.now) }
 {
     if in_pairs(list) {
         return list.len() / NUMBERS;
@@ -204,41 +208,27 @@ fn first_on_odd_line(list: &[i16]) -> usize
 }
 
 // What document 01 says of a list: that it is a travel map, or why not.
-pub fn check(list: &[i16]) -> Verdict
+pub fn check(list: &[i16]) -> Result<(), Refusal>
     ensures { Checked list.now result }
 {
     let n = list.len() / NUMBERS;
     if list.len() % NUMBERS != 0 {
-        return Verdict::NotTriples;
+        return Err(Refusal::NotTriples);
     }
     if MOST_VERTICES < n {
-        return Verdict::TooMany;
+        return Err(Refusal::TooMany);
     }
     let outside = first_outside(list);
     if outside < n {
-        return Verdict::OutOfRange(outside);
+        return Err(Refusal::OutOfRange(outside));
     }
     let falling = first_falling(list);
     if falling < n {
-        return Verdict::NotRising(falling);
+        return Err(Refusal::NotRising(falling));
     }
     let odd = first_on_odd_line(list);
     if odd < n {
-        return Verdict::OddLine(odd);
+        return Err(Refusal::OddLine(odd));
     }
-    Verdict::Valid
-}
-
-// Whether the verdict is that the list is a travel map.
-pub fn is_valid(verdict: Verdict) -> bool
-    ensures { result ≡ passes verdict }
-{
-    match verdict {
-        Verdict::Valid => true,
-        Verdict::NotTriples => false,
-        Verdict::TooMany => false,
-        Verdict::OutOfRange(_) => false,
-        Verdict::NotRising(_) => false,
-        Verdict::OddLine(_) => false,
-    }
+    Ok(())
 }

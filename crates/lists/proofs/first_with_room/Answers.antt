@@ -2,7 +2,8 @@
 use mathlib.Core.Path.{◌≡◌, refl, sym, ap, ◌∙◌}
 use mathlib.Core.List.{List}
 use Prim.Native.Nat.{min}
-use Rattle.meaning.specs.Numbers.{focus, first, second, Corner}
+use Rattle.meaning.specs.Numbers.{focus, first, second}
+use Rattle.meaning.specs.declared.Corner.{Corner}
 use Rattle.meaning.specs.Lists.{vertices}
 use Rattle.lists.specs.Check.{first_on}
 use Rattle.lists.proofs.Lines.{first_at_start, first_of_three}
