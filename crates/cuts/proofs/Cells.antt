@@ -14,7 +14,8 @@ use Prim.Native.Nat.{ℕ, ◌*◌}
 use native.Mathlib.Omega.{arith}
 use lib.IntN.{ℤ}
 use lib.ListN.{length, take, drop}
-use Rattle.meaning.specs.Numbers.{Axis, Corner, Square, is_code, is_number}
+use Rattle.meaning.specs.Numbers.{Axis, Square, is_code, is_number}
+use Rattle.meaning.specs.declared.Corner.{Corner}
 use Rattle.meaning.specs.Lists.{vertices, numbers, permitted, Valid}
 use Rattle.meaning.specs.Verdicts.{verdict, passes}
 use Rattle.meaning.specs.OneList.{one_pairs, WithinCodes}

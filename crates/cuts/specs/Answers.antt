@@ -9,7 +9,8 @@
 --   split_outcome, SplitPromise              what a split comes to, and its promise
 use Rattle.std.specs.Prelude.{◌≡◌, Bool, cond, List, ℕ, ℤ, length}
 use Rattle.std.proofs.Math.Option.{Option}
-use Rattle.meaning.specs.Numbers.{Axis, Corner, Pair, is_code, is_number}
+use Rattle.meaning.specs.Numbers.{Axis, Pair, is_code, is_number}
+use Rattle.meaning.specs.declared.Corner.{Corner}
 use Rattle.meaning.specs.Lists.{vertices, numbers, permitted}
 use Rattle.meaning.specs.Verdicts.{verdict}
 use Rattle.meaning.specs.OneList.{one_list, one_pairs}

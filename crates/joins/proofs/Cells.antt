@@ -15,7 +15,8 @@ use Prim.Native.Nat.{ℕ, ◌*◌}
 use native.Mathlib.Omega.{arith}
 use lib.IntN.{ℤ}
 use lib.ListN.{length, take, drop}
-use Rattle.meaning.specs.Numbers.{Cell, Corner}
+use Rattle.meaning.specs.declared.Cell.{Cell}
+use Rattle.meaning.specs.declared.Corner.{Corner}
 use Rattle.meaning.specs.Lists.{vertices, numbers, permitted}
 use Rattle.meaning.specs.OneList.{WithinCodes}
 use Rattle.meaning.specs.Made.{MapOf}

@@ -8,7 +8,7 @@ use Prim.Native.Nat.{ℕ, zero, suc, ◌/◌, ◌%◌, ◌<◌}
 use native.Mathlib.Omega.{arith}
 use lib.IntN.{ℤ}
 use lib.ListN.{length}
-use Rattle.meaning.specs.Numbers.{Cell}
+use Rattle.meaning.specs.declared.Cell.{Cell}
 use Rattle.meaning.specs.Lists.{vertices}
 use Rattle.meaning.specs.Lists as Lists
 use Rattle.meaning.specs.Verdicts.{verdict, passes}

@@ -15,11 +15,14 @@ use lib.ListN.{length}
 use mir.Syntax.{w16}
 use mir.Val.{SFits, to_z, of_z}
 use mir.ValLaws.{to_z-of_z}
-use Rattle.meaning.specs.Numbers.{Cell, Corner, cell}
+use Rattle.meaning.specs.Numbers.{cell}
+use Rattle.meaning.specs.declared.Cell.{Cell}
+use Rattle.meaning.specs.declared.Corner.{Corner}
 use Rattle.meaning.specs.Lists.{vertices, permitted, Rising}
 use Rattle.meaning.specs.Verdicts.{verdict, passes}
 use Rattle.meaning.specs.Outcomes.{Outcome, outcome, Nothing, nothing, done, refused, kept}
-use Rattle.meaning.specs.Nearest.{distance, Nearest, Reached, reached, nowhere, nearest_of, IsNearest, nearest_outcome}
+use Rattle.meaning.specs.Nearest.{distance, Nearest, reached, nowhere, nearest_of, IsNearest, nearest_outcome}
+use Rattle.meaning.specs.declared.Reached.{Reached}
 use Rattle.meaning.specs.declared.Verdict.{Verdict}
 use Rattle.meaning.proofs.Checked.{passes_valid}
 use Rattle.meaning.proofs.Closest.{nearest_unique}

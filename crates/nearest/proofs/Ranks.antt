@@ -19,7 +19,9 @@ use lib.Dec.{leb, ltb}
 use lib.IntN.{ℤ}
 use lib.Signed.{le_z}
 use lib.ListN.{length, get_or}
-use Rattle.meaning.specs.Numbers.{Axis, focus, first, second, Cell, Corner, cell, is_code, is_cell, lowest, number, steps}
+use Rattle.meaning.specs.Numbers.{Axis, focus, first, second, cell, is_code, is_cell, lowest, number, steps}
+use Rattle.meaning.specs.declared.Cell.{Cell}
+use Rattle.meaning.specs.declared.Corner.{Corner}
 use Rattle.meaning.specs.Lists.{permitted, Valid}
 use Rattle.meaning.specs.Nearest.{weight, distance, lower, Nearest}
 use Rattle.meaning.proofs.Parity.{sum, sum_ext}

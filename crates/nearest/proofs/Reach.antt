@@ -13,7 +13,8 @@ use borrow.Author.Tests.{le-leb, lt-leb, ltb-true, ltb-false}
 use lib.Dec.{leb, ltb}
 use lib.ListN.{length, get_or}
 use lib.Seq.{take-length}
-use Rattle.meaning.specs.Numbers.{Axis, focus, first, second, Corner}
+use Rattle.meaning.specs.Numbers.{Axis, focus, first, second}
+use Rattle.meaning.specs.declared.Corner.{Corner}
 use Rattle.meaning.specs.Lists.{permitted, Valid}
 use Rattle.meaning.proofs.Parity.{sum, sum_ext}
 use Rattle.meaning.proofs.Maps.{valid_within}

@@ -2,9 +2,11 @@
 --   found_values, found_reached, found_says    document 01's values of each case of the answer; the cell and the distance that it gives; what it comes to
 --   Answered                                the promise, over the list, the wish and the answer
 use Rattle.std.specs.Prelude.{◌≡◌, List, ℤ}
-use Rattle.meaning.specs.Numbers.{Cell, cell}
+use Rattle.meaning.specs.Numbers.{cell}
+use Rattle.meaning.specs.declared.Cell.{Cell}
 use Rattle.meaning.specs.Outcomes.{Values, Outcome, outcome, Nothing, nothing, done, empty_map, refused}
-use Rattle.meaning.specs.Nearest.{Reached, reached, nowhere, IsNearest, nearest_outcome}
+use Rattle.meaning.specs.Nearest.{reached, nowhere, IsNearest, nearest_outcome}
+use Rattle.meaning.specs.declared.Reached.{Reached}
 use Rattle.nearest.specs.declared.Found.{Found}
 use Rattle.nearest.specs.declared.Found.TheVariants.{At, Empty, Refused}
 

@@ -11,7 +11,9 @@
 --   few_vertices    the most vertices for which small rooms do
 --   Rooms      the rooms of the search are long enough for so many keys
 use Rattle.std.specs.Prelude.{◌≡◌, true, List, map, ℕ, ◌+◌, ◌*◌, ◌/◌, ◌%◌, ◌^◌, ◌≤◌, ◌<◌, ℤ, length}
-use Rattle.meaning.specs.Numbers.{focus, first, second, Cell, Corner, cell, number}
+use Rattle.meaning.specs.Numbers.{focus, first, second, cell, number}
+use Rattle.meaning.specs.declared.Cell.{Cell}
+use Rattle.meaning.specs.declared.Corner.{Corner}
 use Rattle.meaning.specs.Lists.{vertices, permitted, Valid}
 use Rattle.meaning.specs.Nearest.{distance}
 use Rattle.codes.specs.Keys.{key_of, of_key}

@@ -13,7 +13,9 @@ use borrow.Author.Tests.{ltb-true, ltb-false, leb-true}
 use lib.Dec.{ltb, leb, eqb}
 use lib.IntN.{ℤ}
 use lib.ListN.{length}
-use Rattle.meaning.specs.Numbers.{Cell, Corner, is_code, is_number}
+use Rattle.meaning.specs.Numbers.{is_code, is_number}
+use Rattle.meaning.specs.declared.Cell.{Cell}
+use Rattle.meaning.specs.declared.Corner.{Corner}
 use Rattle.meaning.specs.Counting.{count, first}
 use Rattle.meaning.specs.Lists.{vertices, numbers, permitted, cell_by, surrounding, weigh, mask, how_many, most_vertices}
 use Rattle.meaning.specs.Kinds.{kind, kind_by, half_edges, is_manifold, is_non_manifold}

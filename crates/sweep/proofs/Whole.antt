@@ -16,7 +16,9 @@ use lib.IntN.{ℤ}
 use lib.ListN.{length, take, drop, length-map, length-take}
 use lib.Seq.{length-take-le}
 use borrow.Author.Tests.{leb-true, leb-false}
-use Rattle.meaning.specs.Numbers.{Cell, Corner, cell, number}
+use Rattle.meaning.specs.Numbers.{cell, number}
+use Rattle.meaning.specs.declared.Cell.{Cell}
+use Rattle.meaning.specs.declared.Corner.{Corner}
 use Rattle.meaning.specs.Counting.{All}
 use Rattle.meaning.specs.Lists.{vertices, numbers, permitted, most_vertices, Valid}
 use Rattle.meaning.specs.OneList.{WithinCodes}

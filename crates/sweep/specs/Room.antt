@@ -3,7 +3,7 @@
 --   Working            so many keys for each operand, the result, the section of each operand, and a merge
 use Rattle.std.specs.Prelude.{◌≡◌, List, ◌++◌, ℕ, ◌*◌, ◌≤◌, ◌<◌, ℤ, length, drop}
 use Rattle.std.proofs.Math.Option.{some}
-use Rattle.meaning.specs.Numbers.{Corner}
+use Rattle.meaning.specs.declared.Corner.{Corner}
 use Rattle.meaning.specs.Lists.{numbers}
 use Rattle.meaning.specs.Operations.{Operation, operation, joined_list}
 

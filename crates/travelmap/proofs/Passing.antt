@@ -14,12 +14,14 @@ use lib.IntN.{ℤ}
 use mir.Syntax.{w16}
 use mir.Val.{SFits, to_z, of_z}
 use mir.ValLaws.{to_z-of_z}
-use Rattle.meaning.specs.Numbers.{Cell, Corner, cell, corner}
+use Rattle.meaning.specs.Numbers.{cell, corner}
+use Rattle.meaning.specs.declared.Cell.{Cell}
+use Rattle.meaning.specs.declared.Corner.{Corner}
 use Rattle.meaning.specs.Counting.{count}
 use Rattle.meaning.specs.Lists.{vertices, permitted, surrounding, most_vertices}
 use Rattle.meaning.specs.Verdicts.{verdict, passes, refusal_place}
 use Rattle.meaning.specs.Outcomes.{Values, Outcome, outcome, Nothing, nothing, done, refused, kept, verdict_values}
-use Rattle.meaning.specs.Nearest.{Reached}
+use Rattle.meaning.specs.declared.Reached.{Reached}
 use Rattle.meaning.specs.declared.Verdict.{Verdict}
 use Rattle.lists.specs.Check.{Checked}
 use Rattle.lists.proofs.Verdicts.{checked_verdict}

@@ -15,12 +15,15 @@ use lib.Dec.{eqb}
 use lib.IntN.{ℤ}
 use mir.Syntax.{w16}
 use mir.Val.{SFits}
-use Rattle.meaning.specs.Numbers.{Cell, Corner, cell, is_code}
+use Rattle.meaning.specs.Numbers.{cell, is_code}
+use Rattle.meaning.specs.declared.Cell.{Cell}
+use Rattle.meaning.specs.declared.Corner.{Corner}
 use Rattle.meaning.specs.Lists.{vertices, permitted, Rising}
 use Rattle.meaning.specs.Kinds.{bit}
 use Rattle.meaning.specs.Verdicts.{verdict, passes, refusal_number}
 use Rattle.meaning.specs.Outcomes.{Values, Outcome, outcome, Nothing, nothing, done, refused, empty_map, kept}
-use Rattle.meaning.specs.Nearest.{gap, weight, distance, Reached, reached, nowhere, nearest_of, IsNearest, nearest_outcome}
+use Rattle.meaning.specs.Nearest.{gap, weight, distance, reached, nowhere, nearest_of, IsNearest, nearest_outcome}
+use Rattle.meaning.specs.declared.Reached.{Reached}
 use Rattle.meaning.specs.declared.Verdict.{Verdict}
 use Rattle.meaning.specs.declared.Verdict.TheVariants.{Valid, NotTriples, TooMany, OutOfRange, NotRising, OddLine}
 use Rattle.meaning.proofs.Integers.{and_left, and_right}

@@ -9,7 +9,7 @@ use Prim.Native.Nat.{ℕ, ◌+◌, ◌≤◌, ◌<◌}
 use native.Mathlib.Omega.{arith}
 use lib.IntN.{ℤ}
 use lib.ListN.{length, drop, set, length-append}
-use Rattle.meaning.specs.Numbers.{Corner}
+use Rattle.meaning.specs.declared.Corner.{Corner}
 use Rattle.meaning.specs.Lists.{vertices, permitted}
 use Rattle.meaning.specs.Nearest.{Nearest}
 use Rattle.meaning.specs.Verdicts.{passes}

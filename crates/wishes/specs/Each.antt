@@ -4,7 +4,9 @@
 --   Wishable      a map that is not empty, wishes that come in threes, and room for their cells
 --   EachPut       the cells nearest to the wishes stand at the front, in their order, and everything behind is untouched
 use Rattle.std.specs.Prelude.{◌≡◌, List, ℕ, ◌+◌, ◌%◌, ◌≤◌, ◌<◌, ℤ, pos, length, get_or, set}
-use Rattle.meaning.specs.Numbers.{Cell, Corner, cell}
+use Rattle.meaning.specs.Numbers.{cell}
+use Rattle.meaning.specs.declared.Cell.{Cell}
+use Rattle.meaning.specs.declared.Corner.{Corner}
 use Rattle.meaning.specs.Lists.{vertices, permitted}
 use Rattle.meaning.specs.Verdicts.{verdict}
 use Rattle.meaning.specs.Nearest.{Nearest}

@@ -6,7 +6,9 @@
 --                               not fit; else done: the cells stand at the front of the result
 --   ManyAnswered                the promise
 use Rattle.std.specs.Prelude.{◌≡◌, cond, List, [], ◌∷◌, ◌*◌, ◌%◌, leb, eqb, ℤ, length}
-use Rattle.meaning.specs.Numbers.{Cell, Corner, cell}
+use Rattle.meaning.specs.Numbers.{cell}
+use Rattle.meaning.specs.declared.Cell.{Cell}
+use Rattle.meaning.specs.declared.Corner.{Corner}
 use Rattle.meaning.specs.Lists.{vertices}
 use Rattle.meaning.specs.Verdicts.{verdict}
 use Rattle.meaning.specs.declared.Verdict.TheVariants.{NotTriples}

@@ -7,7 +7,8 @@ use lib.ListN.{length}
 use mir.Syntax.{w16}
 use mir.Val.{SFits, to_z, of_z}
 use mir.ValLaws.{to_z-of_z}
-use Rattle.meaning.specs.Numbers.{Cell, cell}
+use Rattle.meaning.specs.Numbers.{cell}
+use Rattle.meaning.specs.declared.Cell.{Cell}
 use Rattle.meaning.specs.Lists.{vertices, most_vertices}
 use Rattle.meaning.specs.Verdicts.{passes}
 use Rattle.codes.specs.Lift.{lifted, lowered}

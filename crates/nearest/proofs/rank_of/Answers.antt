@@ -3,7 +3,9 @@ use mathlib.Core.Path.{◌≡◌, sym, ap₂, subst}
 use mathlib.Core.List.{List, map}
 use Prim.Native.Nat.{ℕ, ◌+◌, ◌*◌, ◌<◌}
 use native.Mathlib.Omega.{arith}
-use Rattle.meaning.specs.Numbers.{Corner, Cell, cell}
+use Rattle.meaning.specs.Numbers.{cell}
+use Rattle.meaning.specs.declared.Cell.{Cell}
+use Rattle.meaning.specs.declared.Corner.{Corner}
 use Rattle.meaning.specs.Nearest.{weight}
 use Rattle.codes.specs.Keys.{of_key}
 use Rattle.codes.specs.Lift.{lowered}

@@ -4,7 +4,8 @@ use mathlib.Core.List.{List, map}
 use Prim.Native.Nat.{ℕ}
 use lib.ListN.{take, length-map}
 use lib.Seq.{take_at}
-use Rattle.meaning.specs.Numbers.{Corner, cell}
+use Rattle.meaning.specs.Numbers.{cell}
+use Rattle.meaning.specs.declared.Corner.{Corner}
 use Rattle.meaning.specs.Lists.{vertices}
 use Rattle.codes.specs.Keys.{key_of}
 use Rattle.codes.specs.Lift.{lowered}

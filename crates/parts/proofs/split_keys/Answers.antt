@@ -5,7 +5,7 @@ use Prim.Native.Nat.{ℕ}
 use native.Mathlib.Omega.{arith}
 use lib.ListN.{take}
 use Rattle.meaning.specs.Counting.{All}
-use Rattle.meaning.specs.Numbers.{Corner}
+use Rattle.meaning.specs.declared.Corner.{Corner}
 use Rattle.meaning.specs.Lists.{vertices}
 use Rattle.codes.specs.Keys.{key_of}
 use Rattle.rising.proofs.Sums.{none_below}

@@ -9,7 +9,8 @@ use lib.Signed.{mag}
 use lib.ListN.{get_or, set}
 use mir.Syntax.{w16}
 use mir.Val.{hbits, to_z, of_z}
-use Rattle.meaning.specs.Numbers.{Cell, cell}
+use Rattle.meaning.specs.Numbers.{cell}
+use Rattle.meaning.specs.declared.Cell.{Cell}
 use Rattle.codes.specs.Keys.{of_key}
 use Rattle.codes.specs.Lift.{lifted, lowered}
 use Rattle.codes.proofs.Laws.{lowered_lifted, read_back}
