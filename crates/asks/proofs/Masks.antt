@@ -1,24 +1,23 @@
 -- Laws of masks: operations on the bits of a mask are operations on the memberships that it weighs.
 --   and_weigh, xor_weigh    both at once; one without the other
 --   over_sides              the cells that a vertex is at or below: on all three axes
---   SoFar                   what a pass over a list has of a mask: with the vertices that are left it is the whole
---   so_far_first, so_far_next, so_far_all    where the pass begins, one vertex more, where it ends
+--   masked_by, masked_all   turned by the cells that each vertex of a list is at or below: the mask of the permitted ones
 use mathlib.Core.Path.{◌≡◌, refl, sym, ◌∙◌, ap, ap₂}
 use mathlib.Core.Bool.{Bool, true, false, ◌&&◌, cond, false≢true}
 use mathlib.Core.List.{List, [], ◌∷◌, map}
-use Prim.Native.Nat.{ℕ, ◌+◌, ◌*◌, ◌/◌, ◌%◌, ◌≤◌, ◌<◌, min}
+use Prim.Native.Nat.{ℕ, ◌+◌, ◌*◌, ◌/◌, ◌%◌, ◌<◌, min}
 use native.Mathlib.Omega.{arith}
 use lib.Bits.{bit_and, bit_xor, and_step, xor_step, differ}
 use lib.IntN.{ℤ, pred_ℤ}
 use lib.Signed.{le_z}
-use lib.ListN.{length, drop}
+use Rattle.std.specs.List.{fold}
 use Rattle.meaning.specs.declared.Cell.{Cell}
 use Rattle.meaning.specs.declared.Corner.{Corner}
-use Rattle.meaning.specs.Lists.{vertices, at_or_below, permitted, surrounding, weigh, mask}
+use Rattle.meaning.specs.Lists.{at_or_below, permitted, surrounding, weigh, mask}
 use Rattle.meaning.proofs.Parity.{◌⊕◌, ⊕_false, ⊕_assoc}
 use Rattle.meaning.proofs.Integers.{lt_z_le_z}
-use Rattle.asks.specs.Passes.{vertex_at, side, over}
-use Rattle.asks.proofs.Passes.{le_z_pred, vertices_drop, vertices_end, permitted_cons}
+use Rattle.asks.specs.Passes.{side, over}
+use Rattle.asks.proofs.Passes.{le_z_pred, vertex_of, permitted_cons}
 
 abbrev bit : Bool → ℕ
 bit b = cond b 1 0
@@ -95,34 +94,32 @@ module _ (w v : Corner) where
   on_second : weigh (map (λ c. le_z w.second c.second) (surrounding v)) ≡ side w.second v.second 170
   on_second = on_axis w.second v.second (false ∷ true ∷ false ∷ true ∷ false ∷ true ∷ false ∷ true ∷ [])
 
-  pub over_sides : bit_and (side w.focus v.focus 240) (bit_and (side w.first v.first 204) (side w.second v.second 170)) ≡ over w v
-  over_sides =
-      ap₂ bit_and (sym on_focus)
-      (ap₂ bit_and (sym on_first) (sym on_second) ∙ and_weigh (λ c. le_z w.first c.first) (λ c. le_z w.second c.second) (surrounding v))
+  -- by the numbers of w, as a machine hands them on
+  pub over_sides : {x y z : ℤ} → x ≡ w.focus → y ≡ w.first → z ≡ w.second
+      → bit_and (side x v.focus 240) (bit_and (side y v.first 204) (side z v.second 170)) ≡ over w v
+  over_sides e f g =
+      ap₂ bit_and (ap (λ u. side u v.focus 240) e ∙ sym on_focus)
+      (ap₂ bit_and (ap (λ u. side u v.first 204) f ∙ sym on_first) (ap (λ u. side u v.second 170) g ∙ sym on_second)
+      ∙ and_weigh (λ c. le_z w.first c.first) (λ c. le_z w.second c.second) (surrounding v))
       ∙ and_weigh (λ c. le_z w.focus c.focus) (λ c. le_z w.first c.first && le_z w.second c.second) (surrounding v)
 
--- m weighs the memberships `so` of the eight cells, which the vertices from place i on complete
-pub record SoFar (ns : List ℤ) (v : Corner) (i m : ℕ) : Type 0 where
-  pub so : Cell → Bool
-  pub is : m ≡ weigh (map so (surrounding v))
-  pub whole : (c : Cell) → (so c ⊕ permitted (vertices (drop i ns)) c) ≡ permitted (vertices ns) c
+-- a mask turned by the cells that each vertex is at or below
+abbrev pub masked_by : Corner → ℕ → List ℤ → ℕ
+masked_by v m numbers = bit_xor m (over (vertex_of numbers) v)
 
-module _ (ns : List ℤ) (v : Corner) where
-  pub so_far_first : SoFar ns v 0 0
-  so_far_first = record { so = λ c. false; is = refl; whole = λ c. refl }
+module _ (v : Corner) where
+  abbrev weighed : (Cell → Bool) → ℕ
+  weighed S = weigh (map S (surrounding v))
 
-  pub so_far_next : (i m r : ℕ) → i + 2 < length ns → r ≡ over (vertex_at ns i) v → SoFar ns v i m → SoFar ns v (i + 3) (bit_xor m r)
-  so_far_next i m r h e s = record {
-    so = λ c. s.so c ⊕ at_or_below c (vertex_at ns i);
-    is = ap₂ bit_xor s.is e ∙ xor_weigh s.so (λ c. at_or_below c (vertex_at ns i)) (surrounding v);
-    whole = λ c.
-        ⊕_assoc (s.so c) (at_or_below c (vertex_at ns i)) (permitted (vertices (drop (i + 3) ns)) c)
-        ∙ ap (s.so c ⊕◌) (sym (ap (λ l. permitted l c) (vertices_drop ns i h) ∙ permitted_cons (vertex_at ns i) (vertices (drop (i + 3) ns)) c))
-        ∙ s.whole c;
-  }
+  -- from the mask of some memberships: of each cell, turned by the vertices it is at or above
+  masked_from : (ls : List (List ℤ)) (so : Cell → Bool) → fold (masked_by v) (weighed so) ls ≡ weighed (λ c. so c ⊕ permitted (map vertex_of ls) c)
+  masked_from [] so = ap weighed (λ j c. sym (⊕_false (so c)) j)
+  masked_from (n ∷ ls) so =
+      let w = vertex_of n in
+      let more = λ (c : Cell). so c ⊕ at_or_below c w in
+      ap (λ (m : ℕ). fold (masked_by v) m ls) (xor_weigh so (λ c. at_or_below c w) (surrounding v))
+      ∙ masked_from ls more
+      ∙ ap weighed (λ j c. (⊕_assoc (so c) (at_or_below c w) (permitted (map vertex_of ls) c) ∙ ap (so c ⊕◌) (sym (permitted_cons w (map vertex_of ls) c))) j)
 
-  pub so_far_all : (i m : ℕ) → length ns ≤ i + 2 → SoFar ns v i m → m ≡ mask (permitted (vertices ns)) v
-  so_far_all i m h s = s.is ∙ ap (λ S. weigh (map S (surrounding v))) same
-    where
-      same : s.so ≡ permitted (vertices ns)
-      same = λ j c. (sym (⊕_false (s.so c)) ∙ ap (λ l. s.so c ⊕ permitted l c) (sym (vertices_end ns i h)) ∙ s.whole c) j
+  pub masked_all : (ls : List (List ℤ)) → fold (masked_by v) 0 ls ≡ mask (permitted (map vertex_of ls)) v
+  masked_all ls = masked_from ls (λ c. false)

@@ -1,26 +1,27 @@
 -- Laws of a pass over the numbers of a list, one vertex after the other.
 --   le_z_pred, level, level_low       a number against the cell on the high side and on the low side of a corner, by their crossings
---   at_or_below_lem                      the three tests of a vertex, by crossings
---   vertices_drop, vertices_end      from a place on: the vertex there and the others; none where fewer than three numbers are left
+--   at_or_below_passed               the three tests of a vertex, by crossings: where the first two pass, the third decides
+--   vertex_of, vertices_by_three     the vertex of three numbers; the numbers of a list three by three are its vertices
 --   side_beyond                      the cells beyond a number on one axis, by its crossing
 --   crossing, crossing_back          the crossing of a number that was handed on; lowered, it is the number
 --   permitted_cons                   one vertex more
---   OddSoFar                         the parity so far, with the vertices that are left, is the whole
---   odd_first, odd_next, odd_all     where the pass begins, one vertex more, where it ends
+--   turned_by, turned_all            turned by each vertex at or below a cell: whether their number is odd
 use mathlib.Core.Path.{◌≡◌, refl, sym, ◌∙◌, ap, ap₂}
 use mathlib.Core.Bool.{Bool, true, false, not, ◌&&◌, cond, beq}
-use mathlib.Core.List.{List, [], ◌∷◌}
-use Prim.Native.Nat.{ℕ, zero, suc, ◌+◌, ◌-◌, ◌≤◌, ◌<◌}
+use mathlib.Core.List.{List, [], ◌∷◌, map}
+use Prim.Native.Nat.{ℕ, zero, suc, ◌+◌, ◌-◌, ◌/◌, ◌<◌}
 use native.Mathlib.Omega.{arith}
 use borrow.Author.Tests.{ltb-true, ltb-false, leb-true, leb-false, le-leb, lt-leb, le-ltb}
 use lib.Dec.{leb, ltb}
 use lib.IntN.{ℤ, pos, negsuc, pred_ℤ}
 use lib.Signed.{le_z, lt_z}
-use lib.ListN.{length, get_or, drop, length-drop}
-use lib.Seq.{drop-cons}
+use lib.ListN.{length}
 use mir.Syntax.{w16}
 use mir.Val.{SFits, to_z, of_z}
 use mir.ValLaws.{to_z-of_z}
+use Rattle.std.specs.Simd.{first_chunks}
+use Rattle.std.specs.List.{fold}
+use Rattle.meaning.specs.Numbers.{corner}
 use Rattle.meaning.specs.declared.Cell.{Cell}
 use Rattle.meaning.specs.declared.Corner.{Corner}
 use Rattle.meaning.specs.Lists.{vertices, at_or_below, permitted}
@@ -57,32 +58,36 @@ pub level_low : (y : ℤ) (n : ℕ) → SFits w16 y → n < 65536 → le_z y (pr
 level_low y n f h = le_z_pred y (lowered n) ∙ lifted_lt y (lowered n) f (lowered_fits n h) ∙ ap (ltb (lifted y)) (lifted_lowered n)
 
 -- the three tests of a vertex, by the crossings u of its numbers
-pub at_or_below_lem : (w : Corner) (x y z u₁ u₂ u₃ : ℕ) → u₁ ≡ lifted w.focus → u₂ ≡ lifted w.first → u₃ ≡ lifted w.second →
+at_or_below_lem : (w : Corner) (x y z u₁ u₂ u₃ : ℕ) → u₁ ≡ lifted w.focus → u₂ ≡ lifted w.first → u₃ ≡ lifted w.second →
     at_or_below (lowered_cell x y z) w ≡ (leb u₁ x && (leb u₂ y && leb u₃ z))
 at_or_below_lem w x y z u₁ u₂ u₃ e₁ e₂ e₃ = ap₂ ◌&&◌ (test w.focus x u₁ e₁) (ap₂ ◌&&◌ (test w.first y u₂ e₂) (test w.second z u₃ e₃))
   where
     test : (t : ℤ) (n u : ℕ) → u ≡ lifted t → le_z t (lowered n) ≡ leb u n
     test t n u e = level t n ∙ ap (λ m. leb m n) (sym e)
 
-short : (l : List ℤ) → length l ≤ 2 → vertices l ≡ []
-short [] h = refl
-short (x ∷ []) h = refl
-short (x ∷ y ∷ []) h = refl
-short (x ∷ y ∷ z ∷ l) h = absurd (omega arith)
+-- where the first two pass, the third decides
+pub at_or_below_passed : (w : Corner) (x y z : ℕ) {u₁ u₂ u₃ : ℕ} → u₁ ≡ lifted w.focus → u₂ ≡ lifted w.first → u₃ ≡ lifted w.second
+    → leb u₁ x ≡ true → leb u₂ y ≡ true → leb u₃ z ≡ at_or_below (lowered_cell x y z) w
+at_or_below_passed w x y z {u₁} {u₂} {u₃} e₁ e₂ e₃ h k =
+    sym (at_or_below_lem w x y z u₁ u₂ u₃ e₁ e₂ e₃ ∙ ap₂ (λ s t. s && (t && leb u₃ z)) h k)
 
-module _ (ns : List ℤ) (i : ℕ) where
-  next : (j k : ℕ) → k ≡ suc j → j < length ns → drop j ns ≡ get_or ns j (pos 0) ∷ drop k ns
-  next j k e h = drop-cons ns j (pos 0) h ∙ ap (λ m. get_or ns j (pos 0) ∷ drop m ns) (sym e)
+-- the vertex of three numbers
+abbrev pub vertex_of : List ℤ → Corner
+vertex_of numbers = vertex_at numbers 0
 
-  pub vertices_drop : i + 2 < length ns → vertices (drop i ns) ≡ vertex_at ns i ∷ vertices (drop (i + 3) ns)
-  vertices_drop h =
-      ap vertices
-      (next i (i + 1) (omega arith) (omega arith)
-      ∙ ap (get_or ns i (pos 0) ∷◌)
-      (next (i + 1) (i + 2) (omega arith) (omega arith) ∙ ap (get_or ns (i + 1) (pos 0) ∷◌) (next (i + 2) (i + 3) (omega arith) (omega arith))))
-
-  pub vertices_end : length ns ≤ i + 2 → vertices (drop i ns) ≡ []
-  vertices_end h = short (drop i ns) (rw (length-drop i ns) (omega arith))
+-- the numbers three by three are the vertices
+pub vertices_by_three : (ns : List ℤ) → map vertex_of (first_chunks 3 (length ns / 3) ns) ≡ vertices ns
+vertices_by_three ns = go ns (length ns / 3) refl
+  where
+    go : (ns : List ℤ) (n : ℕ) → n ≡ length ns / 3 → map vertex_of (first_chunks 3 n ns) ≡ vertices ns
+    go [] zero e = refl
+    go (x ∷ []) zero e = refl
+    go (x ∷ y ∷ []) zero e = refl
+    go (x ∷ y ∷ z ∷ l) zero e = absurd (omega arith)
+    go [] (suc n) e = absurd (omega arith)
+    go (x ∷ []) (suc n) e = absurd (omega arith)
+    go (x ∷ y ∷ []) (suc n) e = absurd (omega arith)
+    go (x ∷ y ∷ z ∷ l) (suc n) e = ap (corner x y z ∷◌) (go l n (omega arith))
 
 pub permitted_cons : (v : Corner) (l : List Corner) (c : Cell) → permitted (v ∷ l) c ≡ (at_or_below c v ⊕ permitted l c)
 permitted_cons v l c = odd_count (at_or_below c) (v ∷ l) ∙ ap (at_or_below c v ⊕◌) (sym (odd_count (at_or_below c) l))
@@ -105,27 +110,19 @@ xor_⊕ true false = refl
 xor_⊕ false true = refl
 xor_⊕ false false = refl
 
--- with the vertices from place i on, o is the parity of all
-pub record OddSoFar (ns : List ℤ) (c : Cell) (i : ℕ) (o : Bool) : Type 0 where
-  pub whole : (o ⊕ permitted (vertices (drop i ns)) c) ≡ permitted (vertices ns) c
+-- turned by each vertex at or below the cell
+abbrev pub turned_by : Cell → Bool → List ℤ → Bool
+turned_by c odd numbers = not (beq odd (at_or_below c (vertex_of numbers)))
 
-module _ (ns : List ℤ) (c : Cell) where
-  pub odd_first : OddSoFar ns c 0 false
-  odd_first = record { whole = refl }
-
-  pub odd_next : (i : ℕ) (o b : Bool) → i + 2 < length ns → b ≡ at_or_below c (vertex_at ns i) → OddSoFar ns c i o → OddSoFar ns c (i + 3) (not (beq o b))
-  odd_next i o b h e s =
-      let rest = permitted (vertices (drop (i + 3) ns)) c in
-      record {
-        whole =
-            ap (◌⊕ rest) (xor_⊕ o b)
-            ∙ ⊕_assoc o b rest
-            ∙ ap (o ⊕◌) (ap (◌⊕ rest) e ∙ sym (ap (λ l. permitted l c) (vertices_drop ns i h) ∙ permitted_cons (vertex_at ns i) (vertices (drop (i + 3) ns)) c))
-            ∙ s.whole;
-      }
-
-  pub odd_all : (i : ℕ) (o : Bool) → length ns ≤ i + 2 → OddSoFar ns c i o → o ≡ permitted (vertices ns) c
-  odd_all i o h s = sym (⊕_false o) ∙ ap (λ l. o ⊕ permitted l c) (sym (vertices_end ns i h)) ∙ s.whole
+pub turned_all : (c : Cell) (ls : List (List ℤ)) (odd : Bool) → fold (turned_by c) odd ls ≡ (odd ⊕ permitted (map vertex_of ls) c)
+turned_all c [] odd = sym (⊕_false odd)
+turned_all c (n ∷ ls) odd =
+    let b = at_or_below c (vertex_of n) in
+    let rest = permitted (map vertex_of ls) c in
+    turned_all c ls (turned_by c odd n)
+    ∙ ap (◌⊕ rest) (xor_⊕ odd b)
+    ∙ ⊕_assoc odd b rest
+    ∙ ap (odd ⊕◌) (sym (permitted_cons (vertex_of n) (map vertex_of ls) c))
 
 -- a number and its crossing, as a machine hands it on
 pub crossing : (z : ℤ) (u : ℕ) → SFits w16 z → u ≡ lifted (to_z w16 (of_z w16 z)) → u ≡ lifted z

@@ -1,6 +1,5 @@
 -- Laws of the vertices on a plane: in a list that rises they stand together, behind all lower ones.
---   PastSoFar                              the pass over the vertices below a bound: with those that are left it is the whole
---   past_first, past_next, past_stop, past_end    where it begins, one vertex more, where it stops at a vertex or at the end
+--   first_below, passed_all                how many vertices lie below a bound before the first that does not
 --   Climbs, rising_climbs                  no focus number below the one before it: what a list that rises has
 --   keep_run, run_start, run_end           the vertices on a plane stand together, behind all with a lower focus number
 --   before_through, count_le, leading_within, vertices_length    bounds
@@ -10,15 +9,16 @@ use mir.Syntax.{w16}
 use mir.Val.{SFits}
 use mathlib.Core.Path.{◌≡◌, refl, sym, ◌∙◌, ap, ap₂}
 use mathlib.Core.Bool.{Bool, true, false, not, ◌&&◌, ◌||◌, cond, true≢false}
-use mathlib.Core.List.{List, [], ◌∷◌}
-use Prim.Native.Nat.{ℕ, zero, suc, ◌+◌, ◌*◌, ◌-◌, ◌≤◌, ◌<◌}
+use mathlib.Core.List.{List, [], ◌∷◌, map}
+use Prim.Native.Nat.{ℕ, zero, suc, ◌+◌, ◌*◌, ◌-◌, ◌≤◌}
 use native.Mathlib.Nat.{zero-add}
 use native.Mathlib.Omega.{arith}
-use borrow.Author.Tests.{lt-ltb, le-ltb, not-false}
+use borrow.Author.Tests.{not-false}
 use lib.Dec.{ltb}
 use lib.IntN.{ℤ, pos}
 use lib.Signed.{le_z, lt_z}
 use lib.ListN.{length, get_or, take, drop, length-drop}
+use Rattle.std.specs.List.{prefix_len}
 use Rattle.meaning.specs.declared.Corner.{Corner}
 use Rattle.meaning.specs.Counting.{count, keep, All}
 use Rattle.meaning.specs.Lists.{vertices, numbers, below, Rising, Valid}
@@ -31,40 +31,15 @@ use Rattle.codes.proofs.Tests.{leb_same}
 use Rattle.lists.proofs.Vertices.{length_vertices}
 use Rattle.asks.specs.Asks.{on_plane, before_plane, through_plane}
 use Rattle.asks.specs.Passes.{under, leading}
-use Rattle.asks.proofs.Passes.{level, vertices_drop, vertices_end}
+use Rattle.asks.proofs.Passes.{level, vertex_of}
 
--- how many vertices from place i on lie below the bound before the first that does not
-abbrev ahead : List ℤ → ℕ → ℕ → ℕ
-ahead ns bound i = leading (under bound) (vertices (drop i ns))
+-- the vertices below a bound before the first that does not lie there, by their numbers
+abbrev pub first_below : ℕ → List ℤ → Bool
+first_below bound numbers = ltb (lifted (get_or numbers 0 (pos 0))) bound
 
--- from a place, i is reached over vertices below the bound alone
-pub record PastSoFar (ns : List ℤ) (from bound i : ℕ) : Type 0 where
-  pub whole : i + 3 * ahead ns bound i ≡ from + 3 * ahead ns bound from
-
-module _ (ns : List ℤ) (from bound : ℕ) where
-  pub past_first : PastSoFar ns from bound from
-  past_first = record { whole = refl }
-
-  -- the vertex at i, by the crossing u of its focus number
-  ahead_there : (i u : ℕ) → i + 2 < length ns → u ≡ lifted (get_or ns i (pos 0)) →
-      ahead ns bound i ≡ cond (ltb u bound) (suc (ahead ns bound (i + 3))) zero
-  ahead_there i u h e = ap (leading (under bound)) (vertices_drop ns i h) ∙ ap (λ n. cond (ltb n bound) (suc (ahead ns bound (i + 3))) zero) (sym e)
-
-  pub past_next : (i u : ℕ) → i + 2 < length ns → u ≡ lifted (get_or ns i (pos 0)) → u < bound → PastSoFar ns from bound i → PastSoFar ns from bound (i + 3)
-  past_next i u h e l s =
-      let step : ahead ns bound i ≡ suc (ahead ns bound (i + 3)) =
-      ahead_there i u h e ∙ ap (λ t. cond t (suc (ahead ns bound (i + 3))) zero) (lt-ltb u bound l) in
-      record { whole = omega (arith, s.whole) }
-
-  pub past_stop : (i u : ℕ) → i + 2 < length ns → u ≡ lifted (get_or ns i (pos 0)) → bound ≤ u → PastSoFar ns from bound i → i ≡ from + 3 * ahead ns bound from
-  past_stop i u h e l s =
-      let none : ahead ns bound i ≡ 0 = ahead_there i u h e ∙ ap (λ t. cond t (suc (ahead ns bound (i + 3))) zero) (le-ltb u bound l) in
-      omega (arith, s.whole)
-
-  pub past_end : (i : ℕ) → length ns ≤ i + 2 → PastSoFar ns from bound i → i ≡ from + 3 * ahead ns bound from
-  past_end i h s =
-      let none : ahead ns bound i ≡ 0 = ap (leading (under bound)) (vertices_end ns i h) in
-      omega (arith, s.whole)
+pub passed_all : (bound : ℕ) (ls : List (List ℤ)) → prefix_len (first_below bound) ls ≡ leading (under bound) (map vertex_of ls)
+passed_all bound [] = refl
+passed_all bound (n ∷ ls) = ap (λ (m : ℕ). cond (first_below bound n) m 0) (omega (arith, passed_all bound ls))
 
 -- ---- a list that rises climbs in focus
 

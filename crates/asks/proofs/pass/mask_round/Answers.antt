@@ -1,13 +1,16 @@
--- `asks::pass::mask_round` meets its contract. The invariant: the mask so far, with the vertices that are left, is the whole.
-use Rattle.asks.proofs.Masks.{so_far_first, so_far_next, so_far_all}
-use borrow.Author.Rules.{rules}
+-- `asks::pass::mask_round` meets its contract: each vertex turns the cells that it is at or below.
+use mathlib.Core.Path.{◌∙◌, ap}
+use Rattle.std.proofs.Common.{rules}
+use Rattle.std.proofs.lemmas.Iterator.{YieldsList-from_slice}
+use Rattle.std.proofs.lemmas.Iterator.Consumers.{fold_from_yields_List}
+use Rattle.meaning.specs.Lists.{permitted, mask}
+use Rattle.asks.specs.Passes.{lowered_corner}
+use Rattle.asks.proofs.Masks.{masked_by, masked_all}
 use Rattle.asks.proofs.pass.mask_round.Goals as goal
 
-pub loop-i-init : goal.loop-i-init
-loop-i-init c = (search rules, so_far_first _ _)
-
-pub loop-i-preserved : goal.loop-i-preserved
-loop-i-preserved c = (search rules, so_far_next _ _ _ _ _ c.loop-i-test.true c.cells_over-mask.ensures c.loop-i.invariant.1)
-
 pub returns : goal.returns
-returns c = so_far_all _ _ _ _ c.loop-i-test.false c.loop-i.invariant.1
+returns c =
+    let at = lowered_corner c.args.focus c.args.first c.args.second in
+    fold_from_yields_List _ (masked_by at) 0 c.fold.result c.fold.ensures.ran (YieldsList-from_slice _ c.iter.ensures.rest) (λ a x b q k. search rules)
+    ∙ masked_all at _
+    ∙ ap (λ l. mask (permitted l) at) c.vertices_of.ensures

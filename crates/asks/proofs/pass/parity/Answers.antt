@@ -1,10 +1,17 @@
--- `asks::pass::parity` meets its contract. The invariant: the parity so far, with the vertices that are left, is the whole.
-use Rattle.asks.proofs.Passes.{odd_next, odd_all}
-use borrow.Author.Rules.{rules}
+-- `asks::pass::parity` meets its contract: each vertex at or below the cell turns the answer.
+use mathlib.Core.Path.{◌∙◌, ap}
+use mathlib.Core.Bool.{false}
+use Rattle.std.proofs.Common.{rules}
+use Rattle.std.proofs.lemmas.Iterator.{YieldsList-from_slice}
+use Rattle.std.proofs.lemmas.Iterator.Consumers.{fold_from_yields_List}
+use Rattle.meaning.specs.Lists.{permitted}
+use Rattle.asks.specs.Passes.{lowered_cell}
+use Rattle.asks.proofs.Passes.{turned_by, turned_all}
 use Rattle.asks.proofs.pass.parity.Goals as goal
 
-pub loop-i-preserved : goal.loop-i-preserved
-loop-i-preserved c = (search rules, odd_next _ _ _ _ _ c.loop-i-test.true c.at_or_below-odd.ensures c.loop-i.invariant.1)
-
 pub returns : goal.returns
-returns c = odd_all _ _ _ _ c.loop-i-test.false c.loop-i.invariant.1
+returns c =
+    let at = lowered_cell c.args.focus c.args.first c.args.second in
+    fold_from_yields_List _ (turned_by at) false c.fold.result c.fold.ensures.ran (YieldsList-from_slice _ c.iter.ensures.rest) (λ a x b q k. search rules)
+    ∙ turned_all at _ false
+    ∙ ap (λ l. permitted l at) c.vertices_of.ensures

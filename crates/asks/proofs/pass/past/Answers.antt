@@ -1,15 +1,30 @@
--- `asks::pass::past` meets its contract. The invariant: the vertices passed, with those that are left below the bound, are all from the start.
+-- `asks::pass::past` meets its contract: as many vertices are passed as lie below the bound before the first that does not.
+use mathlib.Core.Path.{◌∙◌, ap}
+use Prim.Native.Nat.{◌+◌, ◌-◌, ◌*◌}
 use native.Mathlib.Omega.{arith}
-use Rattle.asks.proofs.Planes.{past_next, past_stop, past_end}
-use borrow.Author.Rules.{rules}
+use lib.ListN.{length, drop, length-drop}
+use Rattle.std.proofs.Common.{rules, tests}
+use Rattle.std.proofs.lemmas.Iterator.{YieldsList-from_slice}
+use Rattle.std.proofs.lemmas.Iterator.Consumers.{YieldsList-at, count_from_yields_List}
+use Rattle.std.proofs.lemmas.Iterator.Search.{YieldsList-from_take_while}
+use Rattle.std.proofs.lemmas.List.{take_all}
+use Rattle.std.proofs.lemmas.List.Folds.{length-prefix_len}
+use Rattle.meaning.specs.Lists.{vertices}
+use Rattle.asks.specs.Passes.{under, leading}
+use Rattle.asks.proofs.Planes.{first_below, passed_all}
 use Rattle.asks.proofs.pass.past.Goals as goal
 
-pub returns-then-bound-focus : goal.returns-then-bound-focus
-returns-then-bound-focus c = past_stop _ _ _ _ _ c.loop-i-test.true c.lift_at-focus.ensures (omega arith) c.loop-i.invariant.1
-
-pub loop-i-preserved : goal.loop-i-preserved
-loop-i-preserved c =
-    (search rules, past_next _ _ _ _ _ c.loop-i-test.true c.lift_at-focus.ensures (omega arith) c.loop-i.invariant.1)
-
 pub returns : goal.returns
-returns c = past_end _ _ _ _ c.loop-i-test.false c.loop-i.invariant.1
+returns c =
+    let below = first_below c.args.bound in
+    let list = c.args.list.now in
+    let from = c.args.from in
+    let ensures = c.take_while.ensures in
+    let whole = take_all (length list - from) (drop from list) (omega (arith, length-drop from list)) in
+    ap (λ n. from + 3 * n)
+    (count_from_yields_List c.take_while.result _ c.count-passed.ensures.ran
+    (YieldsList-from_take_while _ below (YieldsList-at ensures.source (YieldsList-from_slice _ c.iter.ensures.rest))
+    ensures.closure ensures.done (λ x r q k. search (rules, tests)))
+    ∙ length-prefix_len below _
+    ∙ passed_all c.args.bound _
+    ∙ ap (leading (under c.args.bound)) (c.vertices_of.ensures ∙ ap vertices whole))
