@@ -10,7 +10,6 @@ ghost use Rattle.sweep.specs.Room.{Filled, InRoom};
 ghost use Rattle.joins.specs.Join.{JoinMade};
 
 use meaning::{MOST_VERTICES, Verdict};
-use sweep::FEW;
 
 // What a join answers.
 #[derive(Clone, Copy)]
@@ -35,6 +34,9 @@ const UNION: u32 = 1;
 
 const EXCLUSIVE: u32 = 4;
 
+// The most vertices for which the working room is small.
+const FEW: usize = 32;
+
 // Room for a merge of two lists.
 const ROOM: usize = 2 * MOST_VERTICES;
 
@@ -42,12 +44,7 @@ const ROOM: usize = 2 * MOST_VERTICES;
 fn fitting(numbers: usize) -> usize
     ensures { result ≡ min most_vertices (numbers / per_vertex) }
 {
-    let room = numbers / NUMBERS;
-    if MOST_VERTICES < room {
-        MOST_VERTICES
-    } else {
-        room
-    }
+    MOST_VERTICES.min(numbers / NUMBERS)
 }
 
 // Joins two valid lists of few vertices by the sweep where there is room for most vertices: in small room where the result fits there, else in the large one.
@@ -57,9 +54,9 @@ fn join_small(op: u32, a: &[i16], b: &[i16], most: usize, out: &mut [i16]) -> us
     requires most_bounds { (32 ≤ most) × (most ≤ most_vertices) × (per_vertex * most ≤ length out.old) }
     ensures { InRoom op a.now b.now most out.old result out.new }
 {
-    let count = sweep::join_few(op, a, b, FEW, out);
+    let count = sweep::join_in_room::<FEW>(op, a, b, FEW, out);
     if FEW < count {
-        return sweep::join_many(op, a, b, most, out);
+        return sweep::join_in_room::<MOST_VERTICES>(op, a, b, most, out);
     }
     count
 }
@@ -70,14 +67,11 @@ fn join_by_sweep(op: u32, a: &[i16], b: &[i16], most: usize, out: &mut [i16]) ->
     requires most_bounds { (most ≤ most_vertices) × (per_vertex * most ≤ length out.old) }
     ensures { InRoom op a.now b.now most out.old result out.new }
 {
-    if NUMBERS * FEW < a.len() {
-        return sweep::join_many(op, a, b, most, out);
-    }
-    if NUMBERS * FEW < b.len() {
-        return sweep::join_many(op, a, b, most, out);
+    if NUMBERS * FEW < a.len().max(b.len()) {
+        return sweep::join_in_room::<MOST_VERTICES>(op, a, b, most, out);
     }
     if most < FEW {
-        return sweep::join_few(op, a, b, most, out);
+        return sweep::join_in_room::<FEW>(op, a, b, most, out);
     }
     join_small(op, a, b, most, out)
 }

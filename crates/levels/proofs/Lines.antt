@@ -20,6 +20,7 @@ use lib.Dec.{leb, ltb}
 use lib.ListN.{length, take, drop, get_or, length-append, length-map, take-append-drop}
 use lib.Seq.{take-add, take_all, drop-cons}
 use borrow.Author.Tests.{ltb-true, ltb-false, leb-true, leb-false, le-leb, lt-leb}
+use Rattle.std.specs.Prelude.{Option, None, Some}
 use Rattle.meaning.specs.Counting.{All}
 use Rattle.meaning.proofs.Parity.{◌⊕◌, ⊕_false, ⊕_comm, ⊕_cancel, sum, sum_append, sum_all, sum_ext, sum_map}
 use Rattle.meaning.proofs.Integers.{leb_by}
@@ -30,7 +31,7 @@ use Rattle.turn.specs.Turn.{plane_of}
 use Rattle.turn.proofs.Lists.{all_take, all_drop, all_image, all_both, from_drop, from_append, from_plus, all_begins, any, sum_none, less_zero, plus_append, plus_plus, rising_short}
 use Rattle.levels.specs.Level.{Number, line_fits, LineOk}
 use Rattle.rows.specs.Rows.{bit, bit_at, TookLine, Put, PutLine, change}
-use Rattle.levels.specs.Planes.{Spanned, Planes, Rows, Changed}
+use Rattle.levels.specs.Planes.{lesser_of, HeadIs, InRow, Spanned, Planes, Rows, Changed}
 use Rattle.rows.proofs.Operations.{change_none, change_quiet}
 use Rattle.rows.proofs.Bits.{bit_zero}
 use Rattle.rows.proofs.Ones.{put_none, put_then}
@@ -194,7 +195,7 @@ module _ {off low words base : ℕ} {l : List ℕ} {edge i : ℕ} {row : List �
   proper_left : All (λ k. (base ≤ k - off) × Proper off low words k) (drop i l)
   proper_left = all_both (λ k. base ≤ k - off) (Proper off low words) (drop i l) ahead (all_drop (Proper off low words) i l r.proper)
 
-  pub asks_take : All (λ k. (start ≤ k) × (k < limit → k < start + 64 * length row)) (drop i l)
+  pub asks_take : All (InRow start limit words) (drop i l)
   asks_take =
       all_map (drop i l)
       (λ k h. (by (k - off) k h.1.0 refl h.0 h.1.3, λ u. in_span (k - off) k h.1.0 refl h.0 h.1.3 h.1.4 u))
@@ -203,8 +204,8 @@ module _ {off low words base : ℕ} {l : List ℕ} {edge i : ℕ} {row : List �
       by : (m k : ℕ) → off ≤ k → k - off ≡ m → base ≤ m → low ≤ m % 2048 → start ≤ k
       by m k o e b n = omega arith
 
-      in_span : (m k : ℕ) → off ≤ k → k - off ≡ m → base ≤ m → low ≤ m % 2048 → m % 2048 < low + 64 * words → k < limit → k < start + 64 * length row
-      in_span m k o e b n w u = omega (arith, r.long)
+      in_span : (m k : ℕ) → off ≤ k → k - off ≡ m → base ≤ m → low ≤ m % 2048 → m % 2048 < low + 64 * words → k < limit → k < start + 64 * words
+      in_span m k o e b n w u = omega arith
 
   module _ {row' : List ℕ} {e : ℕ} (t : TookLine l i start limit row row' e) where
     joined : take e l ≡ take i l ++ plane_of l i e
@@ -369,6 +370,36 @@ pub record Heads (plane : ℕ) (sa sb pa pb : List ℕ) (i j k l m : ℕ) : Type
   pub least : m ≡ min (min head_sa head_sb) (min head_pa head_pb)
   pub left : i + j + k + l < length sa + length sb + length pa + length pb
 
+-- a key that may be missing, or what stands for none: more than every key
+abbrev key_or : Option ℕ → ℕ
+key_or None = 4294967295
+key_or (Some m) = m
+
+head_of : (off : ℕ) (l : List ℕ) (i : ℕ) (o : Option ℕ) → HeadIs off l i o → HeadOf off l i (key_or o)
+head_of off l i None h = (λ u. absurd (omega arith), λ u. refl)
+head_of off l i (Some m) h = (λ u. h.1, λ u. absurd (omega (arith, h.0)))
+
+head_bound : {off low words : ℕ} {l : List ℕ} {edge i : ℕ} {row : List ℕ} → Read off low words l edge i row → (o : Option ℕ) → HeadIs off l i o
+    → key_or o ≤ 4294967295
+head_bound r None h = omega arith
+head_bound r (Some m) h = omega (arith, head_small r m (head_of _ _ _ (Some m) h) h.0)
+
+lesser_key : (x y : Option ℕ) → key_or x ≤ 4294967295 → key_or y ≤ 4294967295 → key_or (lesser_of x y) ≡ min (key_or x) (key_or y)
+lesser_key None None h k = refl
+lesser_key None (Some y) h k = omega arith
+lesser_key (Some x) None h k = omega arith
+lesser_key (Some x) (Some y) h k = refl
+
+none_of : (x y : Option ℕ) → lesser_of x y ≡ None → (x ≡ None) × (y ≡ None)
+none_of None None e = (refl, refl)
+none_of None (Some y) e = absurd (cc)
+none_of (Some x) None e = absurd (cc)
+none_of (Some x) (Some y) e = absurd (cc)
+
+ends : (off : ℕ) (l : List ℕ) (i : ℕ) (o : Option ℕ) → HeadIs off l i o → o ≡ None → length l ≤ i
+ends off l i None h e = h
+ends off l i (Some m) h e = absurd (cc)
+
 -- where the line of a key begins
 abbrev pub line_of : ℕ → ℕ
 line_of m = m - m % 2048
@@ -377,6 +408,45 @@ module _ {op low words plane : ℕ} {sa sb pa pb out₀ : List ℕ} {n : ℕ} {r
     (w : Lines op low words plane sa sb pa pb out₀ n ra rb ca cb last out put i j k l) where
   pub put_bound : put ≤ n + 1088 * (i + j + k + l)
   put_bound = omega (arith, w.put_out.count, length-map w.keys (λ m. plane + m), w.few)
+
+  module _ (x y u v : Option ℕ) (hx : HeadIs 0 sa i x) (hy : HeadIs 0 sb j y) (hu : HeadIs plane pa k u) (hv : HeadIs plane pb l v) where
+    -- a least key is the least of the first keys
+    pub heads : {m : ℕ} → lesser_of (lesser_of x y) (lesser_of u v) ≡ Some m → Heads plane sa sb pa pb i j k l m
+    heads {m} e =
+        let bx = head_bound w.in_sa x hx in
+        let by = head_bound w.in_sb y hy in
+        let bu = head_bound w.in_pa u hu in
+        let bv = head_bound w.in_pb v hv in
+        let s = lesser_key x y bx by in
+        let t = lesser_key u v bu bv in
+        record {
+          head_sa = key_or x;
+          head_sb = key_or y;
+          head_pa = key_or u;
+          head_pb = key_or v;
+          of_sa = head_of 0 sa i x hx;
+          of_sb = head_of 0 sb j y hy;
+          of_pa = head_of plane pa k u hu;
+          of_pb = head_of plane pb l v hv;
+          least = sym (ap key_or e) ∙ lesser_key (lesser_of x y) (lesser_of u v) (omega arith) (omega arith) ∙ ap₂ min s t;
+          left = some x y u v hx hy hu hv e;
+        }
+      where
+        some : (x y u v : Option ℕ) → HeadIs 0 sa i x → HeadIs 0 sb j y → HeadIs plane pa k u → HeadIs plane pb l v
+            → lesser_of (lesser_of x y) (lesser_of u v) ≡ Some m → i + j + k + l < length sa + length sb + length pa + length pb
+        some (Some a) y u v hx hy hu hv e = omega (arith, hx.0, w.in_sa.within, w.in_sb.within, w.in_pa.within, w.in_pb.within)
+        some None (Some b) u v hx hy hu hv e = omega (arith, hy.0, w.in_sa.within, w.in_sb.within, w.in_pa.within, w.in_pb.within)
+        some None None (Some c) v hx hy hu hv e = omega (arith, hu.0, w.in_sa.within, w.in_sb.within, w.in_pa.within, w.in_pb.within)
+        some None None None (Some d) hx hy hu hv e = omega (arith, hv.0, w.in_sa.within, w.in_sb.within, w.in_pa.within, w.in_pb.within)
+        some None None None None hx hy hu hv e = absurd (cc)
+
+    -- where none is left, all is read
+    pub none_left : lesser_of (lesser_of x y) (lesser_of u v) ≡ None → length sa + length sb + length pa + length pb ≤ i + j + k + l
+    none_left e =
+        let s = none_of (lesser_of x y) (lesser_of u v) e in
+        let f = none_of x y s.0 in
+        let g = none_of u v s.1 in
+        omega (arith, ends 0 sa i x hx f.0, ends 0 sb j y hy f.1, ends plane pa k u hu g.0, ends plane pb l v hv g.1)
 
   module _ {m : ℕ} (q : Heads plane sa sb pa pb i j k l m) where
     some_left : {P : Type 0} → (i < length sa → P) → (j < length sb → P) → (k < length pa → P) → (l < length pb → P) → P
@@ -432,20 +502,20 @@ module _ {op low words plane : ℕ} {sa sb pa pb out₀ : List ℕ} {n : ℕ} {r
     ahead_pb = head_ahead w.in_pb q.head_pb (line_of m) q.of_pb (omega (arith, q.least))
 
     -- what taking the line asks of each list
-    pub asks_sa : All (λ x. (line_of m + low ≤ x) × (x < line_of m + 2048 → x < line_of m + low + 64 * length ra)) (drop i sa)
+    pub asks_sa : All (InRow (0 + line_of m + low) (0 + line_of m + 2048) words) (drop i sa)
     asks_sa = asks_take w.in_sa begins above w.small ahead_sa (omega arith) (omega arith)
 
-    pub asks_sb : All (λ x. (line_of m + low ≤ x) × (x < line_of m + 2048 → x < line_of m + low + 64 * length rb)) (drop j sb)
+    pub asks_sb : All (InRow (0 + line_of m + low) (0 + line_of m + 2048) words) (drop j sb)
     asks_sb = asks_take w.in_sb begins above w.small ahead_sb (omega arith) (omega arith)
 
-    pub asks_pa : All (λ x. (plane + line_of m + low ≤ x) × (x < plane + line_of m + 2048 → x < plane + line_of m + low + 64 * length ca)) (drop k pa)
+    pub asks_pa : All (InRow (plane + line_of m + low) (plane + line_of m + 2048) words) (drop k pa)
     asks_pa = asks_take w.in_pa begins above w.small ahead_pa (omega arith) (omega arith)
 
-    pub asks_pb : All (λ x. (plane + line_of m + low ≤ x) × (x < plane + line_of m + 2048 → x < plane + line_of m + low + 64 * length cb)) (drop l pb)
+    pub asks_pb : All (InRow (plane + line_of m + low) (plane + line_of m + 2048) words) (drop l pb)
     asks_pb = asks_take w.in_pb begins above w.small ahead_pb (omega arith) (omega arith)
 
-    module _ {ra' rb' ca' cb' : List ℕ} {e f g h : ℕ} (ta : TookLine sa i (line_of m + low) (line_of m + 2048) ra ra' e)
-        (tb : TookLine sb j (line_of m + low) (line_of m + 2048) rb rb' f)
+    module _ {ra' rb' ca' cb' : List ℕ} {e f g h : ℕ} (ta : TookLine sa i (0 + line_of m + low) (0 + line_of m + 2048) ra ra' e)
+        (tb : TookLine sb j (0 + line_of m + low) (0 + line_of m + 2048) rb rb' f)
         (tc : TookLine pa k (plane + line_of m + low) (plane + line_of m + 2048) ca ca' g)
         (td : TookLine pb l (plane + line_of m + low) (plane + line_of m + 2048) cb cb' h) where
       on_sa : Read 0 low words sa (line_of m + 2048) e ra'

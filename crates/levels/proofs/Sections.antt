@@ -1,120 +1,51 @@
 -- A plane of the sweep by rows: the span of the numbers, and the state of the loop over planes, in which the section of the result is a list
 -- that no slice holds.
---   LeastOf, GreatestOf       the least and the greatest number of the keys that are read
---   asks_rows                 what the sweep of a plane asks of rows that are lent to it
+--   least_of, greatest_of     the least and the greatest number of some keys, from a number on
 --   Lent, Sweeping            what the loop over planes is lent; its state
---   span_words                the words of a row that has the bits of a span
+--   Ends, span_low .. span_all    the least and the greatest numbers of two lists, and their span
 --   turned, refused           one plane more; where a plane has no room, no whole result has room
 --   begins, short, again, done                           the first turn of the loop, what a turn leaves, and both ends
---   asks_next, asks_changes, asks_a, asks_b              what each call of its body asks
+--   asks_next, planes_of, few_keys, asks_a, asks_b       what each call of its body asks
 -- Assumes nothing.
 use mathlib.Core.Path.{◌≡◌, refl, sym, ◌∙◌, ap, ap₂, subst, subst₂}
 use mathlib.Core.Bool.{Bool, ◌&&◌}
 use mathlib.Core.List.{List, [], ◌∷◌, ◌++◌}
-use Prim.Native.Nat.{ℕ, zero, suc, ◌+◌, ◌-◌, ◌*◌, ◌/◌, ◌%◌, ◌^◌, ◌≤◌, ◌<◌, min}
+use Prim.Native.Nat.{ℕ, ◌+◌, ◌-◌, ◌*◌, ◌/◌, ◌%◌, ◌^◌, ◌≤◌, ◌<◌, min, max}
+use Rattle.std.specs.List.{fold}
 use native.Mathlib.Omega.{arith}
 use lib.Dec.{eqb}
-use lib.ListN.{length, take, drop, get_or, replicate, length-map, length-take}
-use lib.Seq.{take-suc, take_all, length-take-le}
+use lib.ListN.{length, take, drop, length-map, length-take}
+use lib.Seq.{length-take-le}
 use borrow.Author.Tests.{le-leb}
 use Rattle.meaning.specs.Counting.{All}
 use Rattle.meaning.proofs.Parity.{◌⊕◌, ⊕_self, ⊕_assoc, ⊕_comm, sum, sum_all}
-use Rattle.meaning.proofs.Space.{all_map, all_append}
+use Rattle.meaning.proofs.Space.{all_map}
 use Rattle.rising.specs.Merged.{From, merged, less_base, plus_base}
 use Rattle.rising.proofs.Sums.{sum_merged, from_merged, all_merged, same_list}
 use Rattle.turn.specs.Turn.{plane_of, NextOf, Advanced, Taken}
-use Rattle.turn.proofs.Lists.{all_take, all_drop, all_begins, from_drop, from_take, undo}
+use Rattle.turn.proofs.Lists.{all_take, all_drop, from_drop, from_take, undo}
 use Rattle.turn.proofs.Pieces.{least_one}
 use Rattle.rows.proofs.Operations.{holds_out}
 use Rattle.levels.specs.Level.{Number, Operand, Joined, line_fits, LineOk, plane_fits, PlaneOk}
 use Rattle.levels.proofs.Stride.{planes}
 use Rattle.levels.proofs.Levels.{At, at_start, at_turn, Section, Whole, ReadOf, next_a, next_b, on_a, on_b, refuse_room, joined_done, joined_short}
 use Rattle.rows.specs.Rows.{holds_by}
-use Rattle.levels.specs.Planes.{Spanned, Planes, Rows, Changed}
+use Rattle.levels.specs.Planes.{Spanned, Planes, Changed}
 
 -- ---- the span of the numbers
 
--- one key more
-all_more : (Q : ℕ → Type 0) (l : List ℕ) (i : ℕ) → i < length l → All Q (take i l) → Q (get_or l i 0) → All Q (take (i + 1) l)
-all_more Q l i h u q =
-    let e : suc i ≡ i + 1 = omega arith in
-    subst (λ (n : ℕ). All Q (take n l)) e
-    (subst (All Q) (sym (take-suc l i 0 h)) (all_append Q (take i l) (get_or l i 0 ∷ []) u (q, tt)))
+-- the least and the greatest number of some keys, from a number on
+least_of : {r : ℕ} (from : ℕ) (l : List ℕ) → r ≡ fold (λ m k. min m (k % 2048)) from l → (r ≤ from) × All (λ k. r ≤ k % 2048) l
+least_of from [] e = (omega arith, tt)
+least_of from (x ∷ l) e = let h = least_of (min from (x % 2048)) l e in (omega (arith, h.0), (omega (arith, h.0), h.1))
 
-pub record LeastOf (keys : List ℕ) (from least i : ℕ) : Type 0 where
-  pub within : i ≤ length keys
-  pub low : least ≤ from
-  pub all : All (λ k. least ≤ k % 2048) (take i keys)
+pub greatest_of : {r : ℕ} (from : ℕ) (l : List ℕ) → r ≡ fold (λ m k. max m (k % 2048)) from l → (from ≤ r) × All (λ k. k % 2048 ≤ r) l
+greatest_of from [] e = (omega arith, tt)
+greatest_of from (x ∷ l) e = let h = greatest_of (max from (x % 2048)) l e in (omega (arith, h.0), (omega (arith, h.0), h.1))
 
-module _ {keys : List ℕ} {from least i : ℕ} (w : LeastOf keys from least i) where
-  pub least_goes : i < length keys → {r : ℕ} → r ≡ min least (get_or keys i 0 % 2048) → LeastOf keys from r (i + 1)
-  least_goes h e =
-      record {
-        within = omega arith;
-        low = omega (arith, w.low);
-        all = all_more (λ k. _ ≤ k % 2048) keys i h (all_map (take i keys) (λ k u. omega arith) w.all) (omega arith);
-      }
-
-  pub least_ends : length keys ≤ i → (least ≤ from) × All (λ k. least ≤ k % 2048) keys
-  least_ends h = (w.low, subst (All (λ k. least ≤ k % 2048)) (take_all i keys h) w.all)
-
-pub record GreatestOf (keys : List ℕ) (from greatest i : ℕ) : Type 0 where
-  pub within : i ≤ length keys
-  pub high : from ≤ greatest
-  pub bound : greatest ≤ 1024
-  pub all : All (λ k. k % 2048 ≤ greatest) (take i keys)
-
-module _ {keys : List ℕ} {from greatest i : ℕ} (w : GreatestOf keys from greatest i) where
-  pub greatest_goes : i < length keys → All (λ k. k % 2048 ≤ 1024) keys → (r : ℕ) → greatest ≤ r → get_or keys i 0 % 2048 ≤ r
-      → (get_or keys i 0 % 2048 ≤ 1024 → r ≤ 1024) → GreatestOf keys from r (i + 1)
-  greatest_goes h b r g n t =
-      record {
-        within = omega arith;
-        high = omega (arith, w.high);
-        bound = t (all_begins (λ k. k % 2048 ≤ 1024) keys i (all_drop (λ k. k % 2048 ≤ 1024) i keys b) h);
-        all = all_more (λ k. k % 2048 ≤ r) keys i h (all_map (take i keys) (λ k u. omega arith) w.all) n;
-      }
-
-  pub greatest_ends : length keys ≤ i → (from ≤ greatest) × (greatest ≤ 1024) × All (λ k. k % 2048 ≤ greatest) keys
-  greatest_ends h = (w.high, w.bound, subst (All (λ k. k % 2048 ≤ greatest)) (take_all i keys h) w.all)
-
--- ---- rows that are lent to a plane
-
-zeros : (n : ℕ) → All {A = ℕ} (λ w. w ≡ 0) (replicate n 0)
-zeros zero = tt
-zeros (suc n) = (refl, zeros n)
-
--- a row of so many words, from the front of an array of zeros
-abbrev row : ℕ → List ℕ
-row words = take words (replicate 17 0)
-
-row_long : (words : ℕ) → words ≤ 17 → length (row words) ≡ words
-row_long words h = length-take-le words (replicate 17 0) h
-
-row_empty : (words : ℕ) → All {A = ℕ} (λ w. w ≡ 0) (row words)
-row_empty words = all_take (λ w. w ≡ 0) words (replicate 17 0) (zeros 17)
-
-pub asks_planes : {low words plane : ℕ} {sa sb pa pb : List ℕ} → words ≤ 17 → Planes low words plane sa sb pa pb
-    → Planes low (length (row words)) plane sa sb pa pb
-asks_planes {low} {words} {plane} {sa} {sb} {pa} {pb} h = subst (λ (n : ℕ). Planes low n plane sa sb pa pb) (sym (row_long words h))
-
-pub asks_rows : (words : ℕ) → Rows (length (row words)) (row words) (row words) (row words) (row words) (row words)
-asks_rows words =
-    record {
-      long_ra = refl;
-      long_rb = refl;
-      long_ca = refl;
-      long_cb = refl;
-      long_last = refl;
-      none_ra = row_empty words;
-      none_rb = row_empty words;
-      none_ca = row_empty words;
-      none_cb = row_empty words;
-      none_last = row_empty words;
-    }
-
-pub asks_words : (words : ℕ) → words ≤ 17 → length (row words) ≤ 17
-asks_words words h = omega (arith, row_long words h)
+greatest_bound : {r : ℕ} (from : ℕ) (l : List ℕ) → r ≡ fold (λ m k. max m (k % 2048)) from l → from ≤ 1024 → All (λ k. k % 2048 ≤ 1024) l → r ≤ 1024
+greatest_bound from [] e h u = omega arith
+greatest_bound from (x ∷ l) e h u = greatest_bound (max from (x % 2048)) l e (omega (arith, u.0)) u.1
 
 -- ---- numbers within a span
 
@@ -136,6 +67,35 @@ pub spanned : (low high : ℕ) → low ≤ high → (l : List ℕ) → All (λ k
     → All (Spanned low ((high - low) / 64 + 1)) l
 spanned low high h [] u v = tt
 spanned low high h (x ∷ l) u v = ((u.0, omega (arith, v.0)), spanned low high h l u.1 v.1)
+
+-- the least and the greatest numbers of two lists, the one from the other
+pub record Ends (a b : List ℕ) (least low most high : ℕ) : Type 0 where
+  pub least_a : least ≡ fold (λ m k. min m (k % 2048)) 1024 a
+  pub least_b : low ≡ fold (λ m k. min m (k % 2048)) least b
+  pub greatest_a : most ≡ fold (λ m k. max m (k % 2048)) low a
+  pub greatest_b : high ≡ fold (λ m k. max m (k % 2048)) most b
+
+module _ {a b : List ℕ} {least low most high : ℕ} (e : Ends a b least low most high) where
+  pub span_low : low ≤ 1024
+  span_low = omega (arith, least_of 1024 a e.least_a, least_of least b e.least_b)
+
+  pub span_up : low ≤ high
+  span_up = omega (arith, greatest_of low a e.greatest_a, greatest_of most b e.greatest_b)
+
+  pub span_long : All PlaneOk a → All PlaneOk b → (high - low) / 64 + 1 ≤ 17
+  span_long oa ob =
+      span_words low high span_up
+      (greatest_bound most b e.greatest_b (greatest_bound low a e.greatest_a span_low (numbered a oa)) (numbered b ob))
+
+  pub span_all : All (Spanned low ((high - low) / 64 + 1)) a × All (Spanned low ((high - low) / 64 + 1)) b
+  span_all =
+      let la = least_of 1024 a e.least_a in
+      let lb = least_of least b e.least_b in
+      let ga = greatest_of low a e.greatest_a in
+      let gb = greatest_of most b e.greatest_b in (
+        spanned low high span_up a (all_map a (λ k h. omega arith) la.1) (all_map a (λ k h. omega arith) ga.1),
+        spanned low high span_up b lb.1 gb.1,
+      )
 
 -- ---- the change of the operation
 
@@ -225,15 +185,11 @@ pub record Sweeping (op : ℕ) (a b out₀ sa₀ sb₀ room₀ : List ℕ) (low 
   pub sc : List ℕ
   pub state : At planes (holds_by op) a b i j (take na sa) (take nb sb) sc (take n out)
 
--- from the least and the greatest numbers of both operands
-pub lends : {a b out sa sb room : List ℕ} (least low most high : ℕ)
+pub lends : {a b out sa sb room : List ℕ} {low words : ℕ} → low ≤ 1024 → words ≤ 17
     → (length a ≤ length sa) × (length b ≤ length sb) × (length a ≤ length room) × (length b ≤ length room)
     → (length a ≤ 2 ^ 20) × (length b ≤ 2 ^ 20) × (length out ≤ 2 ^ 20)
-    → (least ≤ 1024) × All (λ k. least ≤ k % 2048) a → (low ≤ least) × All (λ k. low ≤ k % 2048) b
-    → (low ≤ most) × (most ≤ 1024) × All (λ k. k % 2048 ≤ most) a → (most ≤ high) × (high ≤ 1024) × All (λ k. k % 2048 ≤ high) b
-    → Lent a b out sa sb room low ((high - low) / 64 + 1)
-lends {a} {b} least low most high room few la lb ga gb =
-    let up : low ≤ high = omega arith in
+    → All (Spanned low words) a × All (Spanned low words) b → Lent a b out sa sb room low words
+lends h k room few s =
     record {
       for_a = room.0;
       for_b = room.1;
@@ -242,10 +198,10 @@ lends {a} {b} least low most high room few la lb ga gb =
       few_keys_a = few.0;
       few_keys_b = few.1;
       few_out = few.2;
-      low_bound = omega arith;
-      words_bound = span_words low high up gb.1;
-      span_a = spanned low high up a (all_map a (λ k h. omega arith) la.1) (all_map a (λ k h. omega arith) ga.2);
-      span_b = spanned low high up b lb.1 gb.2;
+      low_bound = h;
+      words_bound = k;
+      span_a = s.0;
+      span_b = s.1;
     }
 
 -- what each call of the loop's body asks
@@ -255,10 +211,8 @@ AsksNext a b i j =
     (((i ≤ length a) × (j ≤ length b)) ×
     ((i + j < length a + length b) × ((From 0 a × From 0 b) × (All (λ k. k < 2151680000) a × All (λ k. k < 2151680000) b))))
 
-abbrev pub AsksChanges : (sa sb pa pb : List ℕ) (low words base n : ℕ) → Type 0
-AsksChanges sa sb pa pb low words base n =
-    Planes low words base sa sb pa pb ×
-    (((base ≤ 2149580800) × (low ≤ 1024) × (words ≤ 17)) × (n + 1088 * (length sa + length sb + length pa + length pb) ≤ 2 ^ 60))
+abbrev pub FewKeys : (sa sb pa pb : List ℕ) (n : ℕ) → Type 0
+FewKeys sa sb pa pb n = n + 1088 * (length sa + length sb + length pa + length pb) ≤ 2 ^ 60
 
 abbrev pub AsksTake : (sec keys room : List ℕ) (n i e base : ℕ) → Type 0
 AsksTake sec keys room n i e base =
@@ -358,54 +312,48 @@ module _ {op : ℕ} {a b out₀ sa₀ sb₀ room₀ : List ℕ} {low words : ℕ
         joined_done w.long_out w.state (omega arith) (omega arith) w.filled
 
     module _ {base e f : ℕ} (v : Advanced 2099200 a i b j base e f) where
-      pub asks_changes : AsksChanges (take na sa) (take nb sb) (plane_of a i e) (plane_of b j f) low words base n
-      asks_changes =
+      pub base_small : base ≤ 2149580800
+      base_small = omega (arith, v.low, v.begins, least_one (λ k. k < 2151680000) a b i j v.key v.least bound_a bound_b)
+
+      pub planes_of : Planes low words base (take na sa) (take nb sb) (plane_of a i e) (plane_of b j f)
+      planes_of =
           let ra = w.state.swept.in_a in
           let rb = w.state.swept.in_b in
-          let g = v.begins in (
-            record {
-              rises_sa = ra.rises;
-              rises_sb = rb.rises;
-              rises_pa = rises_plane ra g v.in_a;
-              rises_pb = rises_plane rb g v.in_b;
-              proper_sa = ra.oks;
-              proper_sb = rb.oks;
-              proper_pa = proper_plane ra g v.in_a;
-              proper_pb = proper_plane rb g v.in_b;
-              span_sa = w.span_sa;
-              span_sb = w.span_sb;
-              span_pa = span_plane ra g v.in_a low words w.lent.span_a;
-              span_pb = span_plane rb g v.in_b low words w.lent.span_b;
-            },
-            (
-              (
-                omega (arith, v.low, g, least_one (λ k. k < 2151680000) a b i j v.key v.least bound_a bound_b),
-                w.lent.low_bound,
-                w.lent.words_bound,
-              ),
-              few,
-            ),
+          let g = v.begins in
+          record {
+            rises_sa = ra.rises;
+            rises_sb = rb.rises;
+            rises_pa = rises_plane ra g v.in_a;
+            rises_pb = rises_plane rb g v.in_b;
+            proper_sa = ra.oks;
+            proper_sb = rb.oks;
+            proper_pa = proper_plane ra g v.in_a;
+            proper_pb = proper_plane rb g v.in_b;
+            span_sa = w.span_sa;
+            span_sb = w.span_sb;
+            span_pa = span_plane ra g v.in_a low words w.lent.span_a;
+            span_pb = span_plane rb g v.in_b low words w.lent.span_b;
+          }
+
+      pub few_keys : FewKeys (take na sa) (take nb sb) (plane_of a i e) (plane_of b j f) n
+      few_keys =
+          omega (
+            arith,
+            length-take na sa,
+            length-take nb sb,
+            length-take (e - i) (drop i a),
+            length-take (f - j) (drop j b),
+            v.in_a.upto,
+            v.in_b.upto,
+            w.few_a,
+            w.few_b,
+            w.state.swept.in_a.within,
+            w.state.swept.in_b.within,
+            w.filled,
+            w.lent.few_keys_a,
+            w.lent.few_keys_b,
+            w.lent.few_out,
           )
-        where
-          few : n + 1088 * (length (take na sa) + length (take nb sb) + length (plane_of a i e) + length (plane_of b j f)) ≤ 2 ^ 60
-          few =
-              omega (
-                arith,
-                length-take na sa,
-                length-take nb sb,
-                length-take (e - i) (drop i a),
-                length-take (f - j) (drop j b),
-                v.in_a.upto,
-                v.in_b.upto,
-                w.few_a,
-                w.few_b,
-                w.state.swept.in_a.within,
-                w.state.swept.in_b.within,
-                w.filled,
-                w.lent.few_keys_a,
-                w.lent.few_keys_b,
-                w.lent.few_out,
-              )
 
       pub asks_a : (free : List ℕ) → length free ≡ length room₀ → AsksTake sa a free na i e base
       asks_a free h =

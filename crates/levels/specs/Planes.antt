@@ -1,13 +1,48 @@
 -- Inner: a plane of the sweep.
+--   lesser_of  the lesser of two keys, either of which may be missing
+--   Begun      a reading of a list of which nothing is read
+--   HeadIs     the first key that is left of a list, less an offset, or none
+--   InRow      a key at or above a start and, if it is below a limit, within so many words from it
+--   AtLine     a reading that a line may be taken into
+--   LineTaken  a reading that has taken in the keys of a line
 --   Spanned    a key whose number lies within a span
 --   Planes     two sections, and a plane's keys of each operand
 --   Rows       the rows of a plane's sweep
 --   Changed    the change that a plane makes, put out
-use Rattle.std.specs.Prelude.{◌≡◌, List, ℕ, ◌+◌, ◌-◌, ◌*◌, ◌%◌, ◌≤◌, ◌<◌, length}
+use Rattle.std.specs.Prelude.{◌≡◌, List, Option, None, Some, MatchOption, ℕ, ◌+◌, ◌-◌, ◌*◌, ◌%◌, ◌^◌, ◌≤◌, ◌<◌, min, length, take, drop, get_or, replicate}
 use Rattle.meaning.specs.Counting.{All, sum}
 use Rattle.rising.specs.Merged.{From, plus_base}
-use Rattle.rows.specs.Rows.{Put, change}
+use Rattle.rows.specs.Rows.{TookLine, Put, change}
+use Rattle.levels.specs.declared.Reading.{Reading}
 use Rattle.levels.specs.Level.{Number, line_fits, LineOk}
+
+abbrev pub lesser_of : Option ℕ → Option ℕ → Option ℕ
+lesser_of None y = y
+lesser_of (Some x) None = Some x
+lesser_of (Some x) (Some y) = Some (min x y)
+
+pub record Begun (l : List ℕ) (base : ℕ) (r : Reading) : Type 0 where
+  pub keys : r.keys.now ≡ l
+  pub base_is : r.base ≡ base
+  pub read : r.read ≡ 0
+  pub row : r.row ≡ replicate 17 0
+
+abbrev pub HeadIs : ℕ → List ℕ → ℕ → Option ℕ → Type 0
+HeadIs off l i o = MatchOption o (length l ≤ i) (λ m. (i < length l) × (m ≡ get_or l i 0 - off))
+
+abbrev pub InRow : ℕ → ℕ → ℕ → ℕ → Type 0
+InRow start limit words k = (start ≤ k) × (k < limit → k < start + 64 * words)
+
+pub record AtLine (line low words : ℕ) (r : Reading) : Type 0 where
+  pub fits : r.base + line + 2048 < 2 ^ 32
+  pub within : r.read ≤ length r.keys.now
+  pub rises : From 0 r.keys.now
+  pub in_row : All (InRow (r.base + line + low) (r.base + line + 2048) words) (drop r.read r.keys.now)
+
+pub record LineTaken (line low words : ℕ) (r r' : Reading) : Type 0 where
+  pub took : TookLine r.keys.now r.read (r.base + line + low) (r.base + line + 2048) (take words r.row) (take words r'.row) r'.read
+  pub keys : r'.keys.now ≡ r.keys.now
+  pub base : r'.base ≡ r.base
 
 -- a key whose number lies from low on, within so many words
 abbrev pub Spanned : ℕ → ℕ → ℕ → Type 0

@@ -3,12 +3,12 @@
 // kept. It relies on `turn` for planes and sections of the operands, and on `rows` for lines.
 #![tactic(auto)]
 
-ghost use Rattle.std.specs.Prelude.{◌≡◌, ◌+◌, ◌-◌, ◌*◌, ◌%◌, ◌≤◌, ◌<◌, ◌^◌, min, length, get_or};
+ghost use Rattle.std.specs.Prelude.{◌≡◌, ◌+◌, ◌-◌, ◌*◌, ◌%◌, ◌≤◌, ◌<◌, ◌^◌, true, fold, min, max, length};
 ghost use Rattle.meaning.specs.Counting.{All};
 ghost use Rattle.rising.specs.Merged.{less_base};
 ghost use Rattle.rows.specs.Rows.{holds_by};
 ghost use Rattle.levels.specs.Level.{Operand, Joined, plane_fits, PlaneOk};
-ghost use Rattle.levels.specs.Planes.{Planes, Rows, Changed};
+ghost use Rattle.levels.specs.Planes.{lesser_of, Begun, HeadIs, AtLine, LineTaken, Spanned, Planes, Changed};
 
 use codes::{LINE, PLANE};
 use rows::BITS;
@@ -19,72 +19,126 @@ const WORDS: usize = 17;
 // The last corner number, counted from 0.
 const HIGHEST: u32 = 1024;
 
-// What stands for the key that is not there: more than every key.
-const NONE: u32 = 4294967295;
-
-// The key at a place, less a base, or what stands for none.
-fn head(keys: &[u32], i: usize, base: u32) -> u32
-    requires i_in_bounds { i ≤ length keys.now }
-    requires all { All (λ k. base ≤ k) keys.now }
-    ensures { ((i < length keys.now) → result ≡ get_or keys.now i 0 - base)
-        × ((length keys.now ≤ i) → result ≡ 4294967295) }
+// The lesser of two keys, either of which may be missing.
+fn lesser(a: Option<u32>, b: Option<u32>) -> Option<u32>
+    ensures { result ≡ lesser_of a b }
 {
-    if i < keys.len() {
-        return keys[i] - base;
+    match (a, b) {
+        (None, y) => y,
+        (x, None) => x,
+        (Some(x), Some(y)) => Some(x.min(y)),
     }
-    NONE
 }
 
-// The lesser of two numbers.
-fn lesser(a: u32, b: u32) -> u32
-    ensures { result ≡ min a b }
-{
-    if a < b { a } else { b }
-}
-
-// Puts out, behind n keys, what a plane changes: sa and sb are the operands' sections before it, pa and pb its keys, and the rows begin at number
-// low of each line. Answers how many keys that makes.
-fn changes_in(
-    op: u32,
-    sa: &[u32],
-    sb: &[u32],
-    pa: &[u32],
-    pb: &[u32],
-    plane: u32,
+// The numbers of a line that a row has bits for.
+#[derive(Clone, Copy)]
+struct Span {
+    // The lowest.
     low: u32,
-    ra: &mut [u64],
-    rb: &mut [u64],
-    ca: &mut [u64],
-    cb: &mut [u64],
-    last: &mut [u64],
-    out: &mut [u32],
-    n: usize,
-) -> usize
-    requires planes { Planes low (length last.old) plane sa.now sb.now pa.now pb.now }
-    requires rows { Rows (length last.old) ra.old rb.old ca.old cb.old last.old }
-    requires plane_bound { (plane ≤ 2149580800) × (low ≤ 1024) × (length last.old ≤ 17) }
-    requires count_bound { n + 1088 * (length sa.now + length sb.now + length pa.now + length pb.now) ≤ 2 ^ 60 }
-    ensures { Changed op sa.now sb.now (less_base plane pa.now) (less_base plane pb.now) plane
-        out.old n out.new result }
+    // The words of a row.
+    words: usize,
+    ghost low_bound: { low ≤ 1024 },
+    ghost words_bound: { words ≤ 17 },
+}
+
+// A list of keys that is read line by line, with a row of bits for the keys that are read.
+#[derive(Drop)]
+struct Reading<'a> {
+    keys: &'a [u32],
+    // What the keys count from.
+    base: u32,
+    // How many keys are read.
+    read: usize,
+    row: [u64; WORDS],
+}
+
+impl<'a> Reading<'a> {
+    // A list of which nothing is read.
+    fn new(keys: &'a [u32], base: u32) -> Reading<'a>
+        ensures { Begun keys.now base result }
+    {
+        Reading {
+            keys,
+            base,
+            read: 0,
+            row: [0; WORDS],
+        }
+    }
+
+    // The first key that is left, less the base.
+    fn head(&self) -> Option<u32>
+        requires { All (λ k. self.now.base ≤ k) self.now.keys.now }
+        ensures { HeadIs self.now.base self.now.keys.now self.now.read result }
+    {
+        let key = self.keys.get(self.read)?;
+        Some(*key - self.base)
+    }
+
+    // Takes in the keys of a line.
+    fn take_line(&mut self, line: u32, span: Span)
+        requires { AtLine line span.low span.words self.old }
+        ensures { LineTaken line span.low span.words self.old self.new }
+    {
+        let start = self.base + line;
+        let keys = self.keys;
+        let read = self.read;
+        let row = &mut self.row[..span.words];
+        self.read = rows::take_line(row, keys, read, start + span.low, start + LINE);
+    }
+
+    // Whether all keys are read.
+    fn is_read(&self) -> bool
+        ensures { result ≡ true → self.now.read ≡ length self.now.keys.now }
+    {
+        self.read == self.keys.len()
+    }
+}
+
+// What the sweep of a plane reads: the operands' sections before it, and its keys of each operand, which count from a base. That they rise and
+// are in range is no ghost field: such a fact on lists goes by recursion, and would need a proof of its own that it has one value at most.
+#[derive(Clone, Copy)]
+struct Operands<'a> {
+    sa: &'a [u32],
+    sb: &'a [u32],
+    pa: &'a [u32],
+    pb: &'a [u32],
+    base: u32,
+    span: Span,
+    ghost base_bound: { base ≤ 2149580800 },
+}
+
+// Puts out, behind n keys, what a plane changes, and answers how many keys that makes.
+fn changes(op: u32, of: Operands, out: &mut [u32], n: usize) -> usize
+    requires planes { Planes of.span.low of.span.words of.base of.sa.now of.sb.now of.pa.now of.pb.now }
+    requires count_bound { n + 1088 * (length of.sa.now + length of.sb.now + length of.pa.now + length of.pb.now) ≤ 2 ^ 60 }
+    ensures { Changed op of.entry.sa.now of.entry.sb.now (less_base of.entry.base of.entry.pa.now) (less_base of.entry.base of.entry.pb.now)
+        of.entry.base out.old n out.new result }
 {
+    let span = of.span;
+    let mut in_sa = Reading::new(of.sa, 0);
+    let mut in_sb = Reading::new(of.sb, 0);
+    let mut in_pa = Reading::new(of.pa, of.base);
+    let mut in_pb = Reading::new(of.pb, of.base);
+    let mut last = [0; WORDS];
     let mut put = n;
-    let mut i = 0;
-    let mut j = 0;
-    let mut k = 0;
-    let mut l = 0;
-    while i + j + k + l < sa.len() + sb.len() + pa.len() + pb.len() {
-        let before = lesser(head(sa, i, 0), head(sb, j, 0));
-        let turning = lesser(head(pa, k, plane), head(pb, l, plane));
-        let least = lesser(before, turning);
-        let base = least - least % LINE;
-        i = rows::take_line(ra, sa, i, base + low, base + LINE);
-        j = rows::take_line(rb, sb, j, base + low, base + LINE);
-        let start = plane + base;
-        k = rows::take_line(ca, pa, k, start + low, start + LINE);
-        l = rows::take_line(cb, pb, l, start + low, start + LINE);
-        if 0 < k + l {
-            put = rows::put_line(op, ra, rb, ca, cb, last, start + low, out, put);
-            if k + l == pa.len() + pb.len() && rows::is_zero(ca) && rows::is_zero(cb) {
+    while let Some(least) = lesser(
+        lesser(in_sa.head(), in_sb.head()),
+        lesser(in_pa.head(), in_pb.head()),
+    ) {
+        let line = least - least % LINE;
+        in_sa.take_line(line, span);
+        in_sb.take_line(line, span);
+        in_pa.take_line(line, span);
+        in_pb.take_line(line, span);
+        if 0 < in_pa.read + in_pb.read {
+            let ra = &in_sa.row[..span.words];
+            let rb = &in_sb.row[..span.words];
+            let ca = &in_pa.row[..span.words];
+            let cb = &in_pb.row[..span.words];
+            let turned = &mut last[..span.words];
+            let start = of.base + line + span.low;
+            put = rows::put_line(op, ra, rb, ca, cb, turned, start, out, put);
+            if in_pa.is_read() && in_pb.is_read() && rows::is_zero(ca) && rows::is_zero(cb) {
                 return put;
             }
         }
@@ -92,76 +146,32 @@ fn changes_in(
     put
 }
 
-// The same with rows of its own, of so many words.
-fn changes(
-    op: u32,
-    sa: &[u32],
-    sb: &[u32],
-    pa: &[u32],
-    pb: &[u32],
-    plane: u32,
-    low: u32,
-    words: usize,
-    out: &mut [u32],
-    n: usize,
-) -> usize
-    requires planes { Planes low words plane sa.now sb.now pa.now pb.now }
-    requires plane_bound { (plane ≤ 2149580800) × (low ≤ 1024) × (words ≤ 17) }
-    requires count_bound { n + 1088 * (length sa.now + length sb.now + length pa.now + length pb.now) ≤ 2 ^ 60 }
-    ensures { Changed op sa.now sb.now (less_base plane pa.now) (less_base plane pb.now) plane
-        out.old n out.new result }
-{
-    let mut ra = [0u64; WORDS];
-    let mut rb = [0u64; WORDS];
-    let mut ca = [0u64; WORDS];
-    let mut cb = [0u64; WORDS];
-    let mut last = [0u64; WORDS];
-    changes_in(
-        op,
-        sa,
-        sb,
-        pa,
-        pb,
-        plane,
-        low,
-        &mut ra[..words],
-        &mut rb[..words],
-        &mut ca[..words],
-        &mut cb[..words],
-        &mut last[..words],
-        out,
-        n,
-    )
-}
-
 // The least of a number and the numbers of some keys on their lines.
 fn least_number(keys: &[u32], from: u32) -> u32
-    ensures { (result ≤ from) × All (λ k. result ≤ k % 2048) keys.now }
+    ensures { result ≡ fold (λ m k. min m (k % 2048)) from keys.now }
 {
-    let mut least = from;
-    let mut i = 0;
-    while i < keys.len() {
-        least = lesser(least, keys[i] % LINE);
-        i += 1;
-    }
-    least
+    keys.iter().fold(from, |least, key| least.min(*key % LINE))
 }
 
 // The greatest of a number and the numbers of some keys on their lines.
 fn greatest_number(keys: &[u32], from: u32) -> u32
-    requires { (from ≤ 1024) × All (λ k. k % 2048 ≤ 1024) keys.now }
-    ensures { (from ≤ result) × (result ≤ 1024) × All (λ k. k % 2048 ≤ result) keys.now }
+    ensures { result ≡ fold (λ m k. max m (k % 2048)) from keys.now }
 {
-    let mut greatest = from;
-    let mut i = 0;
-    while i < keys.len() {
-        let number = keys[i] % LINE;
-        if greatest < number {
-            greatest = number;
-        }
-        i += 1;
+    keys.iter()
+        .fold(from, |greatest, key| greatest.max(*key % LINE))
+}
+
+// The span of the numbers of two lists of keys.
+fn span_of(a: &[u32], b: &[u32]) -> Span
+    requires { All PlaneOk a.now × All PlaneOk b.now }
+    ensures { All (Spanned result.low result.words) a.now × All (Spanned result.low result.words) b.now }
+{
+    let low = least_number(b, least_number(a, HIGHEST));
+    let high = greatest_number(b, greatest_number(a, low));
+    Span {
+        low,
+        words: (high - low) as usize / BITS + 1,
     }
-    greatest
 }
 
 // Joins two rising lists of keys, plane by plane; the sections and the room are working room.
@@ -180,38 +190,32 @@ pub fn join_planes(
     requires a_len_bound { (length a.now ≤ 2 ^ 20) × (length b.now ≤ 2 ^ 20) × (length out.old ≤ 2 ^ 20) }
     ensures { Joined plane_fits PlaneOk (holds_by op) a.now b.now out.old out.new result }
 {
-    let low = least_number(b, least_number(a, HIGHEST));
-    let high = greatest_number(b, greatest_number(a, low));
-    let words = (high - low) as usize / BITS + 1;
+    let span = span_of(a, b);
     let mut i = 0;
     let mut j = 0;
     let mut n = 0;
+    // Lengths beside the sections: without a heap a list that grows is a lent slice and how many keys it has.
     let mut na = 0;
     let mut nb = 0;
+    // Indices: two lists are gone through at once, plane by plane, and each plane says how far; no iterator does.
     while i + j < a.len() + b.len() {
         let plane = turn::next(PLANE, a, i, b, j);
-        let base = plane.base;
-        let e = plane.a;
-        let f = plane.b;
-        n = changes(
-            op,
-            &sa[..na],
-            &sb[..nb],
-            &a[i..e],
-            &b[j..f],
-            base,
-            low,
-            words,
-            out,
-            n,
-        );
+        let of = Operands {
+            sa: &sa[..na],
+            sb: &sb[..nb],
+            pa: &a[i..plane.a],
+            pb: &b[j..plane.b],
+            base: plane.base,
+            span,
+        };
+        n = changes(op, of, out, n);
         if out.len() < n {
             return n;
         }
-        na = turn::take_in(sa, na, a, i, e, base, room);
-        nb = turn::take_in(sb, nb, b, j, f, base, room);
-        i = e;
-        j = f;
+        na = turn::take_in(sa, na, a, i, plane.a, plane.base, room);
+        nb = turn::take_in(sb, nb, b, j, plane.b, plane.base, room);
+        i = plane.a;
+        j = plane.b;
     }
     n
 }

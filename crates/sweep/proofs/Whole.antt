@@ -8,12 +8,12 @@ use mathlib.Core.Path.{◌≡◌, refl, sym, ◌∙◌, ap, ap₂, subst, subst�
 use mathlib.Core.Bool.{Bool, true, false, not, ◌&&◌, ◌||◌, and-true}
 use mathlib.Core.List.{List, ◌++◌, map}
 use mathlib.Core.Option.{some}
-use Prim.Native.Nat.{ℕ, ◌*◌, ◌/◌, ◌%◌, ◌≤◌, ◌<◌, ◌^◌}
+use Prim.Native.Nat.{ℕ, ◌*◌, ◌/◌, ◌%◌, ◌≤◌, ◌<◌}
 use native.Mathlib.Nat.{div-one}
 use native.Mathlib.Omega.{arith}
 use lib.Dec.{leb}
 use lib.IntN.{ℤ}
-use lib.ListN.{length, take, drop, length-map, length-take}
+use lib.ListN.{length, take, drop, length-map}
 use lib.Seq.{length-take-le}
 use borrow.Author.Tests.{leb-true, leb-false}
 use Rattle.meaning.specs.Numbers.{cell, number}
@@ -35,7 +35,7 @@ use Rattle.rising.proofs.Sums.{sum_merged, from_merged, all_merged}
 use Rattle.rows.specs.Rows.{or_exclusive, holds_by}
 use Rattle.turn.proofs.Lists.{front_of}
 use Rattle.levels.specs.Level.{Operand, plane_fits, PlaneOk, Joined}
-use Rattle.sweep.specs.Room.{InRoom, Working}
+use Rattle.sweep.specs.Room.{InRoom}
 
 -- ---- keys of the sweep are keys of corners
 
@@ -152,9 +152,6 @@ module _ {a : List ℤ} {n : ℕ} {k : List ℕ} (r : Read a n k) where
   pub part : n ≡ length (take n k)
   part = r.count ∙ sym (ap length r.front ∙ length-map (vertices a) key_of)
 
-  pub held : n ≤ length k
-  held = omega (arith, part, length-take n k)
-
   pub operand : Operand PlaneOk (take n k)
   operand =
       subst (Operand PlaneOk) (sym r.front)
@@ -199,20 +196,3 @@ module _ (op most : ℕ) {a b : List ℤ} {ra rb : ℕ} {ka kb : List ℕ} (x : 
       longer : (t : Bool) → leb n (length kr) ≡ t → most < length (joined_list o a b)
       longer true t = omega (arith, whole (leb-true n (length kr) t) o is)
       longer false t = omega (arith, swept_short op o is a b x.valid y.valid kr now n on_keys (leb-false n (length kr) t))
-
--- working room of equal lists
-pub equal_rooms : (z : List ℕ) → length z ≤ 1024 → Working z z z z z z
-equal_rooms z h = record { few = h; is_ka = refl; is_kb = refl; is_sa = refl; is_sb = refl; is_room = refl }
-
-pub rooms : {ka kb kr sa sb room : List ℕ} → Working ka kb kr sa sb room → {a b : List ℤ} {na nb : ℕ} {ka' kb' : List ℕ} → Read a na ka' → Read b nb kb'
-    → length (vertices a) ≤ length kr → length (vertices b) ≤ length kr
-    → ((length (take na ka') ≤ length sa) × (length (take nb kb') ≤ length sb) × (length (take na ka') ≤ length room) × (length (take nb kb') ≤ length room)) ×
-    ((length (take na ka') ≤ 2 ^ 20) × (length (take nb kb') ≤ 2 ^ 20) × (length kr ≤ 2 ^ 20))
-rooms w x y ha hb =
-    let px = part x in
-    let py = part y in
-    let cx = x.count in
-    let cy = y.count in (
-      (omega (arith, w.is_sa), omega (arith, w.is_sb), omega (arith, w.is_room), omega (arith, w.is_room)),
-      (omega (arith, w.few), omega (arith, w.few), omega (arith, w.few)),
-    )

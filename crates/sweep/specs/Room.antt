@@ -1,6 +1,5 @@
 -- Inner: two valid lists joined in working room.
 --   Filled, InRoom     a list at the front of a result that has room for a given number of vertices; the same of an operation's list
---   Working            so many keys for each operand, the result, the section of each operand, and a merge
 use Rattle.std.specs.Prelude.{◌≡◌, List, ◌++◌, ℕ, ◌*◌, ◌≤◌, ◌<◌, ℤ, length, drop}
 use Rattle.std.proofs.Math.Option.{some}
 use Rattle.meaning.specs.declared.Corner.{Corner}
@@ -14,11 +13,3 @@ pub record Filled (l : List Corner) (most : ℕ) (before : List ℤ) (r : ℕ) (
 
 abbrev pub InRoom : ℕ → List ℤ → List ℤ → ℕ → List ℤ → ℕ → List ℤ → Type 0
 InRoom op a b most before r after = (o : Operation) → operation op ≡ some o → Filled (joined_list o a b) most before r after
-
-pub record Working (ka kb kr sa sb room : List ℕ) : Type 0 where
-  pub few : length kr ≤ 1024
-  pub is_ka : length ka ≡ length kr
-  pub is_kb : length kb ≡ length kr
-  pub is_sa : length sa ≡ length kr
-  pub is_sb : length sb ≡ length kr
-  pub is_room : length room ≡ length kr

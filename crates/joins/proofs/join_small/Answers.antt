@@ -3,6 +3,6 @@ use borrow.Author.Rules.{rules}
 use Rattle.meaning.specs.Lists.{most_vertices}
 use Rattle.joins.proofs.join_small.Goals as goal
 
-pub join_many-requires-clause-most_bound : goal.join_many-requires-clause-most_bound
+pub join_in_room-requires-clause-most_bound : goal.join_in_room-requires-clause-most_bound
 unfolding most_vertices
-join_many-requires-clause-most_bound c = search rules
+join_in_room-requires-clause-most_bound c = search rules

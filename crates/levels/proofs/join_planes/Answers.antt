@@ -1,24 +1,26 @@
 -- `levels::join_planes` meets its contract: each call of the loop's body asks, and each turn leaves, what the laws of a plane say.
 use mathlib.Core.Path.{◌∙◌}
 use native.Mathlib.Omega.{arith}
-use Rattle.levels.proofs.Sections.{lends, begins, asks_next, asks_changes, asks_a, asks_b, short, again, done}
+use Rattle.levels.proofs.Sections.{lends, begins, asks_next, planes_of, base_small, few_keys, asks_a, asks_b, short, again, done}
 use Rattle.levels.proofs.join_planes.Goals as goal
 
 pub loop-i-init : goal.loop-i-init
 loop-i-init c =
     let p = c.requires in
-    let least = c.least_number in
-    let low = c.least_number-low in
-    let most = c.greatest_number in
-    let high = c.greatest_number-high in
-    begins p.operand.0 p.operand.1
-    (lends least.result low.result most.result high.result p.a_in_bounds p.a_len_bound least.ensures low.ensures most.ensures high.ensures)
+    let s = c.span_of-span in
+    begins p.operand.0 p.operand.1 (lends s.result.low_bound s.result.words_bound p.a_in_bounds p.a_len_bound s.ensures)
 
 pub next-plane-requires-clause-all : goal.next-plane-requires-clause-all
 next-plane-requires-clause-all c = (asks_next c.loop-i.invariant c.loop-i-test.true).1.1.1.1
 
+pub invariant_of-of : goal.invariant_of-of
+invariant_of-of c = record { base_bound = base_small c.loop-i.invariant c.next-plane.ensures }
+
 pub changes-n-requires-clause-planes : goal.changes-n-requires-clause-planes
-changes-n-requires-clause-planes c = (asks_changes c.loop-i.invariant c.next-plane.ensures).0
+changes-n-requires-clause-planes c = planes_of c.loop-i.invariant c.next-plane.ensures
+
+pub changes-n-requires-clause-count_bound : goal.changes-n-requires-clause-count_bound
+changes-n-requires-clause-count_bound c = few_keys c.loop-i.invariant c.next-plane.ensures
 
 pub returns-then-out-n : goal.returns-then-out-n
 returns-then-out-n c =

@@ -1,0 +1,25 @@
+-- `sweep::join_in_room` meets its contract: what the sweep leaves is the one list, or shows that it is too long.
+use Prim.Native.Nat.{ℕ}
+use native.Mathlib.Omega.{arith}
+use Rattle.std.proofs.lemmas.List.{length-replicate}
+use Rattle.sweep.proofs.Whole.{was_read, operand, ok, done, short}
+use Rattle.sweep.proofs.join_in_room.Goals as goal
+
+pub join_planes-n-requires-clause-operand : goal.join_planes-n-requires-clause-operand
+join_planes-n-requires-clause-operand g c =
+    (operand (was_read _ _ _ _ c.requires.valid.0 c.read-na.ensures), operand (was_read _ _ _ _ c.requires.valid.1 c.read-nb.ensures))
+
+pub returns-then-most-n : goal.returns-then-most-n
+returns-then-most-n g c =
+    short c.args.op c.args.most (was_read _ _ _ _ c.requires.valid.0 c.read-na.ensures) (was_read _ _ _ _ c.requires.valid.1 c.read-nb.ensures)
+    _ c.join_planes-n.new.out (omega (arith, length-replicate {A = ℕ})) c.join_planes-n.ensures c.if-most-n.true
+
+pub write-requires-clause-all : goal.write-requires-clause-all
+write-requires-clause-all g c =
+    ok c.args.op c.args.most (was_read _ _ _ _ c.requires.valid.0 c.read-na.ensures) (was_read _ _ _ _ c.requires.valid.1 c.read-nb.ensures)
+    _ c.join_planes-n.new.out (omega (arith, length-replicate {A = ℕ})) c.join_planes-n.ensures c.if-most-n.false
+
+pub returns : goal.returns
+returns g c =
+    done c.args.op c.args.most (was_read _ _ _ _ c.requires.valid.0 c.read-na.ensures) (was_read _ _ _ _ c.requires.valid.1 c.read-nb.ensures)
+    _ c.join_planes-n.new.out (omega (arith, length-replicate {A = ℕ})) c.join_planes-n.ensures c.if-most-n.false c.write.ensures
