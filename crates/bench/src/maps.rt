@@ -26,11 +26,7 @@ const TWO: usize = 6;
 fn put(numbers: &[i16], at: usize, list: &mut [i16])
     requires { at + length numbers.now ≤ length list.old }
 {
-    let mut i = 0;
-    while i < numbers.len() {
-        list[at + i] = numbers[i];
-        i += 1;
-    }
+    list[at..at + numbers.len()].copy_from_slice(numbers);
 }
 
 // The unit box without its last vertex, (1,1,1).
@@ -87,9 +83,7 @@ fn put_end(n: usize, i: usize, crosswise: bool, list: &mut [i16])
 pub fn put_slabs(n: usize, crosswise: bool, list: &mut [i16])
     requires { (n ≤ 12) × (24 * n ≤ length list.old) }
 {
-    let mut i = 0;
-    while i < 2 * n {
+    for i in 0..2 * n {
         put_end(n, i, crosswise, list);
-        i += 1;
     }
 }
