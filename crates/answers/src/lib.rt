@@ -89,15 +89,14 @@ pub fn refuse(number: usize, place: usize, out: &mut [u8]) -> usize
     REFUSAL_LINE
 }
 
-// The 05 line of wish i.
+// The 05 line of a wish, three numbers.
 #[tactic(auto, using(codes::proofs::Laws::read_back, crate::proofs::Lines::answer_at))]
-fn answer(list: &[i16], wishes: &[i16], i: usize) -> [u8; ANSWER_LINE]
+fn answer(list: &[i16], wish: &[i16]) -> [u8; ANSWER_LINE]
     requires valid { verdict list.now ≡ Verdict.Valid }
-    requires i_in_bounds { 3 * i + 2 < length wishes.now }
-    ensures { AnswerLine (vertices list.now) (wish_at wishes.now i) result }
+    requires three { length wish.now ≡ 3 }
+    ensures { AnswerLine (vertices list.now) (wish_at wish.now 0) result }
 {
-    let at = NUMBERS * i;
-    match nearest::nearest_of_map(list, wishes[at], wishes[at + 1], wishes[at + 2]) {
+    match nearest::nearest_of_map(list, wish[0], wish[1], wish[2]) {
         Found::At(focus, first, second, _) => cell_line(focus, first, second),
         Found::Empty => empty_line(),
         Found::Refused(_) => empty_line(),
@@ -113,11 +112,10 @@ pub fn answer_all(list: &[i16], wishes: &[i16], out: &mut [u8]) -> usize
         wishes.now (length wishes.now / 3)
         out.old out.new }
 {
-    let n = wishes.len() / NUMBERS;
-    for i in 0..n {
-        // By ranges: what is written through `chunks_exact_mut` is not known to a proof.
+    for (i, wish) in wishes.chunks_exact(NUMBERS).enumerate() {
+        // By its range: what is written through `chunks_exact_mut` is not known to a proof.
         let at = ANSWER_LINE * i;
-        out[at..at + ANSWER_LINE].copy_from_slice(&answer(list, wishes, i));
+        out[at..at + ANSWER_LINE].copy_from_slice(&answer(list, wish));
     }
-    ANSWER_LINE * n
+    ANSWER_LINE * (wishes.len() / NUMBERS)
 }
