@@ -2,6 +2,7 @@
 --   fits_room                               a list that fits has room
 --   pairs_no_room, pairs_done               pairs in a result, where they do not fit and where they do
 --   low_no_room, high_no_room, halves_done  two lists that are given by keys in two results, by which of them fit
+--   few_vertices_lem                        a valid list has at most 1,024 vertices
 use mathlib.Core.Path.{◌≡◌, sym, ◌∙◌, ap, ap₂}
 use mathlib.Core.Bool.{Bool, true, false, ◌&&◌}
 use mathlib.Core.List.{List, ◌++◌, map}
@@ -11,7 +12,8 @@ use lib.Dec.{leb}
 use lib.IntN.{ℤ}
 use lib.ListN.{length, drop, length-map}
 use Rattle.std.specs.Prelude.{Ok, Err}
-use Rattle.meaning.specs.Lists.{numbers, most_vertices}
+use Rattle.meaning.specs.declared.Corner.{Corner}
+use Rattle.meaning.specs.Lists.{numbers, Valid, most_vertices}
 use Rattle.meaning.specs.Operations.{pair_numbers}
 use Rattle.meaning.specs.Outcomes.{per_vertex, per_pair, fits, front, placed}
 use Rattle.meaning.proofs.Integers.{and_left}
@@ -79,3 +81,9 @@ module _ (ls us : List ℕ) (low high : List ℤ) where
         sym
         (both_fit (map of_key ls) (map of_key us) low high
         (same_fits of_key per_vertex ls (length low) e) (same_fits of_key per_vertex us (length high) f))
+
+-- ---- room
+
+pub few_vertices_lem : (l : List Corner) → Valid l → length l ≤ 1024
+unfolding most_vertices
+few_vertices_lem l h = h.few
