@@ -1,7 +1,8 @@
 -- Laws that docs/PORT.md names and that no proof cites.
 --   near_last      the code of a stretch that lies nearest to a wish above it
 --   behind_low     the code just behind a number is at most that number
---   brought_sound, brought_to     the scale for a wish that is brought to the codes of a stretch: the values of its codes fit; and it is that of the axis
+--   brought_sound  the values of the scale for a wish that is brought to the codes of a stretch fit
+--   brought_to     the scale for a wish that is brought to the codes of a stretch
 --   reach_begins, reach_on      the loop over the keys of a map: the first and each further key
 use mathlib.Core.Path.{◌≡◌, refl, sym, ◌∙◌, ap, ap₂}
 use mathlib.Core.Bool.{Bool, true, false, cond}
@@ -46,14 +47,15 @@ brought low high wish r near c h k =
     both : (a b d : ℕ) → apart a b + apart b d ≤ apart a d → apart a d ≡ apart a b + apart b d
     both a b d p = omega arith
 
-pub brought_sound : (low high wish r weight place : ℕ) → high ≤ 1024 → (0 < weight) × (weight ≤ 16) × (place ≤ 1048576) → Near wish (32256 + low) (32256 + high) r
-    → (r - 32256 < 1024) × (0 < weight) × (weight ≤ 16) × (place ≤ 1048576)
+pub brought_sound : (low high wish r weight place : ℕ) → high ≤ 1024 → (0 < weight) × (weight ≤ 16) × (place ≤ 1048576)
+    → Near wish (32256 + low) (32256 + high) r → (r - 32256 < 1024) × (0 < weight) × (weight ≤ 16) × (place ≤ 1048576)
 brought_sound low high wish r weight place h k near = (omega (arith, near.from, near.below), k.0, k.1, k.2)
 
 -- the values of a scale's codes fit by the field `sound`
 pub brought_to : (low high wish r weight place : ℕ) (h : high ≤ 1024) (k : (0 < weight) × (weight ≤ 16) × (place ≤ 1048576))
     (near : Near wish (32256 + low) (32256 + high) r)
-    → Brought wish low high weight place (record { wish = r - 32256; weight = weight; place = place; sound = brought_sound low high wish r weight place h k near })
+    → Brought wish low high weight place
+    (record { wish = r - 32256; weight = weight; place = place; sound = brought_sound low high wish r weight place h k near })
 brought_to low high wish r weight place h k near =
     record {
       sound = record { code = (brought_sound low high wish r weight place h k near).0; some = k.0; light = k.1; inside = k.2 };
