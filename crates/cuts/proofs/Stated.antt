@@ -45,7 +45,8 @@ module _ {A : Type 0} (each : ℕ) (spell : List A → List ℤ) (long : (l : Li
 -- ---- pairs
 
 module _ (ks : List ℕ) (before : List ℤ) where
-  pub pairs_no_room : fits per_pair ks (length before) ≡ false → section_says (Err section.NoRoom) before ≡ placed per_pair pair_numbers (map pair_of_key ks) before
+  pub pairs_no_room : fits per_pair ks (length before) ≡ false
+      → section_says (Err section.NoRoom) before ≡ placed per_pair pair_numbers (map pair_of_key ks) before
   pairs_no_room e = sym (placed_short per_pair pair_numbers (map pair_of_key ks) before (same_fits pair_of_key per_pair ks (length before) e))
 
   pub pairs_done : (after : List ℤ) → fits per_pair ks (length before) ≡ true
@@ -59,11 +60,13 @@ module _ (ks : List ℕ) (before : List ℤ) where
 -- ---- halves
 
 module _ (ls us : List ℕ) (low high : List ℤ) where
-  pub low_no_room : fits per_vertex ls (length low) ≡ false → split_says (Err split.LowNoRoom) low high ≡ placed_halves (map of_key ls) (map of_key us) low high
+  pub low_no_room : fits per_vertex ls (length low) ≡ false
+      → split_says (Err split.LowNoRoom) low high ≡ placed_halves (map of_key ls) (map of_key us) low high
   low_no_room e = sym (low_short (map of_key ls) (map of_key us) low high (same_fits of_key per_vertex ls (length low) e))
 
   module _ (e : fits per_vertex ls (length low) ≡ true) where
-    pub high_no_room : fits per_vertex us (length high) ≡ false → split_says (Err split.HighNoRoom) low high ≡ placed_halves (map of_key ls) (map of_key us) low high
+    pub high_no_room : fits per_vertex us (length high) ≡ false
+        → split_says (Err split.HighNoRoom) low high ≡ placed_halves (map of_key ls) (map of_key us) low high
     high_no_room f =
         sym
         (high_short (map of_key ls) (map of_key us) low high
