@@ -1,27 +1,27 @@
 -- From the one list of an operation to what a join comes to.
 --   join_settled     two outcomes that the promise allows are equal: the values tell the answers apart
---   made             a list that fits in a result is placed as promised; one that does not fit is refused
+--   made, not_made   a list that fits in a result is placed as promised; one that does not fit is refused
 --   map_refused, map_taken    what taking a list for a map comes to, its refusal in a join's variant
---   joined, first_refused, second_refused, bad_low, bad_high    the ends of a join
+--   joined, no_room_lem, joined_or_not, first_refused, second_refused, bad_low, bad_high    the ends of a join
 -- Assumes nothing.
 use mathlib.Core.Path.{◌≡◌, refl, sym, ◌∙◌, ap, ap₂, subst}
 use mathlib.Core.Bool.{Bool, true, false, ◌&&◌, cond, and-true, and-false}
 use mathlib.Core.List.{List, ◌++◌, map}
 use mathlib.Core.Option.{none, some}
-use Prim.Native.Nat.{ℕ, zero, suc, ◌*◌, ◌/◌, ◌≤◌, ◌<◌, min}
+use Prim.Native.Nat.{ℕ, zero, suc, ◌+◌, ◌-◌, ◌*◌, ◌/◌, ◌≤◌, ◌<◌, min}
 use native.Mathlib.Omega.{arith}
 use lib.Dec.{leb, eqb}
 use lib.IntN.{ℤ}
 use lib.ListN.{length, take, drop, length-map}
-use borrow.Author.Tests.{lt-leb, leb-true, leb-false, eqb-true, eqb-false, ne_eqb}
+use borrow.Author.Tests.{le-leb, lt-leb, leb-true, leb-false, eqb-true, eqb-false, ne_eqb}
 use Rattle.std.specs.Prelude.{Option, None, Some, Result, Ok, Err, ok_or, MatchResult, IfOk, IfErr}
 use Rattle.meaning.specs.declared.Corner.{Corner}
 use Rattle.meaning.specs.Counting.{All}
 use Rattle.meaning.specs.Lists.{vertices, numbers, most_vertices}
 use Rattle.meaning.specs.Operations.{Operation, union, overlap, without, exclusive, operation, joined_list}
-use Rattle.meaning.specs.Verdicts.{Verdict, Valid, verdict, passes}
+use Rattle.meaning.specs.Verdicts.{Verdict, verdict, passes}
 use Rattle.meaning.specs.declared.Refusal.{Refusal}
-use Rattle.meaning.specs.Outcomes.{Values, Outcome, Nothing, nothing, refused, bad_operation, kept, named, checked, per_vertex, fits, placed}
+use Rattle.meaning.specs.Outcomes.{Values, Outcome, outcome, Nothing, nothing, done, refused, bad_operation, kept, named, checked, per_vertex, fits, placed}
 use Rattle.meaning.proofs.Integers.{leb_by}
 use Rattle.meaning.proofs.Outcomes.{verdict_by, verdict_back, checked_next, checked_refused, placed_fits, placed_short}
 use Rattle.meaning.proofs.Made.{length_numbers}
@@ -30,10 +30,10 @@ use Rattle.codes.specs.Keys.{key_of, of_key}
 use Rattle.keys.specs.Parts.{KeyOk}
 use Rattle.keys.proofs.Corners.{keys_ok}
 use Rattle.rising.specs.Merged.{merged, less_base}
-use Rattle.rising.proofs.Sums.{all_merged}
+use Rattle.rising.proofs.Sums.{all_merged, length_merged}
 use Rattle.turn.proofs.Lists.{less_zero, front_of}
 use Rattle.sweep.specs.Room.{Filled, InRoom}
-use Rattle.sweep.proofs.Whole.{Read, merged_result}
+use Rattle.sweep.proofs.Whole.{Read, part, merged_result, read_room}
 use Rattle.joins.specs.Join.{Joining, join_values, join_says, joined_by, join_outcome, JoinMade}
 use Rattle.joins.specs.declared.JoinError.{JoinError}
 use Rattle.joins.specs.declared.JoinError.TheVariants.{BadOperation, FirstRefused, SecondRefused, NoRoom}
@@ -80,26 +80,54 @@ as_fits l room most e = go (leb (length l) most_vertices) refl
     go false f =
         lt-leb (length l) most (omega (arith, leb-false (length l) most_vertices f)) ∙ sym (and-false (leb (3 * length l) room))
 
-module _ {l : List Corner} {most : ℕ} {r : Option ℕ} {before after : List ℤ} (f : Filled l most before r after) where
-  -- what the answer says of a result that has room for most vertices
-  pub made : most ≡ min most_vertices (length before / 3) → join_says (ok_or r NoRoom) after ≡ placed per_vertex numbers l before
-  made e = go (leb (length l) most) refl
-    where
-      fits_as : (t : Bool) → leb (length l) most ≡ t → fits per_vertex l (length before) ≡ t
-      fits_as t q = sym (as_fits l (length before) most e) ∙ q
+some_none : {n : ℕ} → ◌≡◌ {A = Option ℕ} (Some n) None → ⊥
+some_none h = cc
 
-      go : (t : Bool) → leb (length l) most ≡ t → join_says (ok_or r NoRoom) after ≡ placed per_vertex numbers l before
-      go true t =
-          let u = f.fits (leb-true (length l) most t) in
-          ap₂ (λ (o : Option ℕ) (x : List ℤ). join_says (ok_or o NoRoom) x) u.0 (u.1 ∙ ap (λ n. numbers l ++ drop n before) (sym (length_numbers l))) ∙
-          sym (placed_fits per_vertex numbers l before (fits_as true t))
-      go false t =
-          let u = f.short (leb-false (length l) most t) in
-          ap₂ (λ (o : Option ℕ) (x : List ℤ). join_says (ok_or o NoRoom) x) u.0 u.1 ∙ sym (placed_short per_vertex numbers l before (fits_as false t))
+some_once : {m n : ℕ} → ◌≡◌ {A = Option ℕ} (Some m) (Some n) → m ≡ n
+some_once h = cc
+
+module _ {l : List Corner} {most : ℕ} {r : Option ℕ} {before after : List ℤ} (f : Filled l most before r after) where
+  -- the list fits where there is a count, and does not where there is none
+  fits_by : {n : ℕ} → r ≡ Some n → length l ≤ most
+  fits_by h = go (leb (length l) most) refl
+    where
+      go : (t : Bool) → leb (length l) most ≡ t → length l ≤ most
+      go true t = leb-true (length l) most t
+      go false t = absurd (some_none (sym h ∙ (f.short (leb-false (length l) most t)).0))
+
+  short_by : r ≡ None → most < length l
+  short_by h = go (leb (length l) most) refl
+    where
+      go : (t : Bool) → leb (length l) most ≡ t → most < length l
+      go true t = absurd (some_none (sym (f.fits (leb-true (length l) most t)).0 ∙ h))
+      go false t = leb-false (length l) most t
+
+  module _ (e : most ≡ min most_vertices (length before / 3)) where
+    pub made : {n : ℕ} → r ≡ Some n → join_says (Ok n) after ≡ placed per_vertex numbers l before
+    made h =
+        let u = f.fits (fits_by h) in
+        let g = sym (as_fits l (length before) most e) ∙ le-leb (length l) most (fits_by h) in
+        ap₂ (λ n x. outcome (done n) nothing x) (some_once (sym h ∙ u.0)) (u.1 ∙ ap (λ n. numbers l ++ drop n before) (sym (length_numbers l))) ∙
+        sym (placed_fits per_vertex numbers l before g)
+
+    pub not_made : r ≡ None → join_says (Err NoRoom) after ≡ placed per_vertex numbers l before
+    not_made h =
+        let g = sym (as_fits l (length before) most e) ∙ lt-leb (length l) most (short_by h) in
+        ap (join_says (Err NoRoom)) (f.short (short_by h)).1 ∙ sym (placed_short per_vertex numbers l before g)
+
+  -- first in small room: a list that fits there fits; one that does not leaves all as it was
+  pub small_fits : {more n : ℕ} → most ≤ more → r ≡ Some n → Filled l more before r after
+  small_fits u h = let k = fits_by h in record { fits = λ v. f.fits k; short = λ v. absurd (omega arith) }
+
+  pub small_kept : r ≡ None → after ≡ before
+  small_kept h = (f.short (short_by h)).1
 
 -- ---- exclusive or is one merge
 
 module _ {a b : List ℤ} {ra rb : ℕ} {ka kb : List ℕ} (x : Read a ra ka) (y : Read b rb kb) where
+  pub lengths : length (take ra ka) + length (take rb kb) ≤ 2048
+  lengths = omega (arith, part x, part y, x.count, y.count, read_room (vertices a) x.valid, read_room (vertices b) y.valid)
+
   module _ (n : ℕ) (room now : List ℕ) (m : (n ≡ length (merged (take ra ka) (less_base 0 (take rb kb)))) ×
       (now ≡ merged (take ra ka) (less_base 0 (take rb kb)) ++ drop n room)) where
     front : take n now ≡ merged (map key_of (vertices a)) (map key_of (vertices b))
@@ -113,6 +141,9 @@ module _ {a b : List ℤ} {ra rb : ℕ} {ka kb : List ℕ} (x : Read a ra ka) (y
 
     count : n ≡ length (joined_list exclusive a b)
     count = sym long ∙ sym (length-map (take n now) of_key) ∙ ap length result
+
+    pub merge_within : n ≤ 2048
+    merge_within = omega (arith, m.0, length_merged (take ra ka) (less_base 0 (take rb kb)), length-map (take rb kb) (λ k. k - 0), lengths)
 
     pub merge_ok : All KeyOk (take n now)
     merge_ok =
@@ -203,17 +234,29 @@ module _ (op : ℕ) (a b before : List ℤ) where
         let (o, is) = op_some op low high in
         ap (λ v. kept nothing before (refused 1 v)) (sym e) ∙ sym (by_first o is (ap passes e))
 
-    module _ (ga : verdict a ≡ Valid) where
+    module _ (ga : passes (verdict a) ≡ true) where
       pub second_refused : (r : Refusal) → verdict b ≡ Err r → JoinMade op a b before (Err (SecondRefused r)) before
       unfolding JoinMade
       second_refused r e =
           let (o, is) = op_some op low high in
-          ap (λ v. kept nothing before (refused 2 v)) (sym e) ∙ sym (by_second o is (ap passes ga) (ap passes e))
+          ap (λ v. kept nothing before (refused 2 v)) (sym e) ∙ sym (by_second o is ga (ap passes e))
 
-      pub joined : verdict b ≡ Valid → {most : ℕ} {r : Option ℕ} {after : List ℤ} → most ≡ min most_vertices (length before / 3)
-          → InRoom op a b most before r after → JoinMade op a b before (ok_or r NoRoom) after
-      unfolding JoinMade
-      joined gb e f = let (o, is) = op_some op low high in made (f o is) e ∙ sym (by_list o is (ap passes ga) (ap passes gb))
+      module _ (gb : passes (verdict b) ≡ true) {most : ℕ} {r : Option ℕ} {after : List ℤ} (e : most ≡ min most_vertices (length before / 3))
+          (f : InRoom op a b most before r after) where
+        pub joined : {n : ℕ} → r ≡ Some n → JoinMade op a b before (Ok n) after
+        unfolding JoinMade
+        joined h = let (o, is) = op_some op low high in made (f o is) e h ∙ sym (by_list o is ga gb)
+
+        pub no_room_lem : r ≡ None → JoinMade op a b before (Err NoRoom) after
+        unfolding JoinMade
+        no_room_lem h = let (o, is) = op_some op low high in not_made (f o is) e h ∙ sym (by_list o is ga gb)
+
+        pub joined_or_not : JoinMade op a b before (ok_or r NoRoom) after
+        joined_or_not = go r refl
+          where
+            go : (o : Option ℕ) → r ≡ o → JoinMade op a b before (ok_or o NoRoom) after
+            go (Some n) h = joined h
+            go None h = no_room_lem h
 
 -- ---- a list taken for a map, its refusal in a join's variant
 
@@ -229,6 +272,6 @@ map_refused ns (Ok m) error q h = absurd (no_map h)
 map_refused ns (Err r) error q h = (r, h, q)
 
 pub map_taken : (ns : List ℤ) (v : Result TravelMap Refusal) (m : TravelMap) → IfOk v (λ n. n.list.now ≡ ns)
-    → MatchResult v (λ n. ◌≡◌ {A = Result TravelMap JoinError} (Ok m) (Ok n)) (λ r. ⊥) → (m.list.now ≡ ns) × (verdict ns ≡ Valid)
-map_taken ns (Ok n) m q h = let e = ap (λ x. x.list.now) (one_map h) ∙ q in (e, ap verdict (sym e) ∙ m.passes)
+    → MatchResult v (λ n. ◌≡◌ {A = Result TravelMap JoinError} (Ok m) (Ok n)) (λ r. ⊥) → (m.list.now ≡ ns) × (passes (verdict ns) ≡ true)
+map_taken ns (Ok n) m q h = let e = ap (λ x. x.list.now) (one_map h) ∙ q in (e, ap (λ x. passes (verdict x)) (sym e) ∙ ap passes m.passes)
 map_taken ns (Err r) m q h = absurd h

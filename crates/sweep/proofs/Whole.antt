@@ -2,7 +2,7 @@
 --   result_keys      a rising list of keys in range that means the operation is the one list's
 --   one_means        the keys of the one list mean the operation
 --   swept, swept_short, merged_result   what a sweep with and without room, and a merge, show of the one list
---   map_valid        the vertices of a travel map are a valid list
+--   map_valid, map_read     the vertices of a travel map are a valid list; working room that a travel map was read into
 --   done, short      what the two ends of a join in working room leave
 -- Assumes nothing.
 use mathlib.Core.Path.{◌≡◌, refl, sym, ◌∙◌, ap, ap₂, subst, subst₂}
@@ -148,14 +148,16 @@ pub record Read (a : List ℤ) (n : ℕ) (k : List ℕ) : Type 0 where
   pub count : n ≡ length (vertices a)
   pub front : take n k ≡ map key_of (vertices a)
 
+pub was_read : (a : List ℤ) (n : ℕ) (old k : List ℕ) → Valid (vertices a) → (n ≡ length (vertices a)) × (k ≡ map key_of (vertices a) ++ drop n old) → Read a n k
+was_read a n old k v e =
+    record { valid = v; count = e.0; front = front_of n (map key_of (vertices a)) old k (e.0 ∙ sym (length-map (vertices a) key_of)) e.1 }
+
 pub map_valid : (m : TravelMap) → Valid (vertices m.list.now)
 map_valid m = ((verdict_valid m.list.now).0 m.passes).1
 
-pub was_read : (m : TravelMap) (n : ℕ) (old k : List ℕ) → (n ≡ length (vertices m.list.now)) × (k ≡ map key_of (vertices m.list.now) ++ drop n old)
+pub map_read : (m : TravelMap) (n : ℕ) (old k : List ℕ) → (n ≡ length (vertices m.list.now)) × (k ≡ map key_of (vertices m.list.now) ++ drop n old)
     → Read m.list.now n k
-was_read m n old k e =
-    let l = vertices m.list.now in
-    record { valid = map_valid m; count = e.0; front = front_of n (map key_of l) old k (e.0 ∙ sym (length-map l key_of)) e.1 }
+map_read m n old k = was_read m.list.now n old k (map_valid m)
 
 module _ {a : List ℤ} {n : ℕ} {k : List ℕ} (r : Read a n k) where
   pub part : n ≡ length (take n k)

@@ -1,14 +1,15 @@
 -- `joins::join` meets its contract: its answers are the promised ones, case by case.
 use mathlib.Core.Path.{◌≡◌, subst₂}
+use mathlib.Core.Bool.{true}
 use mathlib.Core.List.{List}
 use lib.IntN.{ℤ}
 use Prim.Native.Nat.{◌≤◌}
 use native.Mathlib.Omega.{arith}
 use Rattle.std.proofs.lemmas.Result.{err_from_is_err_and}
-use Rattle.meaning.specs.Verdicts.{Valid, verdict}
+use Rattle.meaning.specs.Verdicts.{verdict, passes}
 use Rattle.sweep.specs.Room.{InRoom}
 use Rattle.joins.specs.declared.JoinError.TheVariants.{FirstRefused, SecondRefused}
-use Rattle.joins.proofs.Answers.{bad_low, bad_high, first_refused, second_refused, joined, map_refused, map_taken}
+use Rattle.joins.proofs.Answers.{bad_low, bad_high, first_refused, second_refused, joined_or_not, map_refused, map_taken}
 use Rattle.joins.proofs.join.Goals as goal
 use Rattle.joins.proofs.join.Goals.{Else-op-gt-EXCLUSIVE, In_ok-first}
 
@@ -35,7 +36,7 @@ returns-in_err-first c =
     rw (p.1, p.2, is) (first_refused _ _ _ _ (op_low at.Else-op-gt-EXCLUSIVE) (op_high at.Else-op-gt-EXCLUSIVE) r why)
 
 -- the first list passes
-passes_a : (n : In_ok-first) → (n.in_ok-first.first.list.now ≡ n.args.a.now) × (verdict n.args.a.now ≡ Valid)
+passes_a : (n : In_ok-first) → (n.in_ok-first.first.list.now ≡ n.args.a.now) × (passes (verdict n.args.a.now) ≡ true)
 passes_a n = map_taken _ n.of.result n.in_ok-first.first n.of.ensures.ok n.in_ok-first.ensures.cases
 
 pub returns-in_err-second : goal.returns-in_err-second
@@ -52,5 +53,5 @@ returns c =
     let (a, ga) = passes_a at.In_ok-first in
     let (b, gb) = map_taken _ c.of-2.result c.in_ok-second.second c.of-2.ensures.ok c.in_ok-second.ensures.cases in
     rw (c.ok_or.ensures.value)
-    (joined _ _ _ _ (op_low at.Else-op-gt-EXCLUSIVE) (op_high at.Else-op-gt-EXCLUSIVE) ga gb c.fitting-most.ensures
+    (joined_or_not _ _ _ _ (op_low at.Else-op-gt-EXCLUSIVE) (op_high at.Else-op-gt-EXCLUSIVE) ga gb c.fitting-most.ensures
     (subst₂ (λ (x y : List ℤ). InRoom c.args.op x y c.fitting-most.result c.args.out.now c.join_valid.result c.join_valid.new.out) a b c.join_valid.ensures))
