@@ -6,7 +6,7 @@
 --   Sound, sound_of, verdict_of_lem        what the verdict "valid" gives; and back
 --   checked_verdict, verdict_checked   the promise of the check: its answer is the verdict
 --   settled                            two answers that the promise of the check allows are equal
-use mathlib.Core.Path.{◌≡◌, refl, sym, ◌∙◌, ap, ap₂}
+use mathlib.Core.Path.{◌≡◌, sym, ◌∙◌, ap, ap₂}
 use mathlib.Core.Bool.{Bool, true, false, cond}
 use mathlib.Core.List.{List, [], ◌∷◌}
 use Prim.Native.Nat.{ℕ, zero, suc, ◌%◌, ◌≤◌, ◌<◌}
