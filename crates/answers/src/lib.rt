@@ -8,9 +8,9 @@ ghost use Rattle.frames.specs.Frames.{four_digits};
 ghost use Rattle.answers.specs.Answers.{refusal_bytes, answer_bytes, refusal_line, cell_line, empty_line};
 ghost use Rattle.answers.specs.Answers.{wish_at, AnswerLine, Filled, Written};
 
-use frames::{DIGITS, LINE_END, NUMBERS, ZERO};
+use frames::{DIGITS, LINE_END, ZERO};
 use lists::TravelMap;
-use meaning::Cell;
+use meaning::{Cell, NUMBERS};
 
 // The second digits of the tags 05, an answer, and 06, a refusal.
 const ANSWER_TAG: u8 = b'5';

@@ -5,8 +5,7 @@ ghost use Rattle.meaning.specs.Lists.{vertices, at_or_below, permitted, mask};
 ghost use Rattle.codes.specs.Lift.{lowered};
 ghost use Rattle.asks.specs.Passes.{vertex_at, lowered_cell, lowered_corner, Beyond, side, over, under, leading};
 
-// The numbers of a vertex.
-const NUMBERS: usize = 3;
+use meaning::NUMBERS;
 
 // Where a vertex lies below the corner on an axis, all eight cells may lie above it.
 const ALL: u8 = u8::MAX;

@@ -10,7 +10,7 @@ ghost use Rattle.sweep.specs.Room.{Filled, InRoom};
 ghost use Rattle.joins.specs.Join.{JoinMade};
 
 use lists::TravelMap;
-use meaning::{MOST_VERTICES, Refusal};
+use meaning::{MOST_VERTICES, NUMBERS, Refusal, SMALL};
 
 // Why a join has no result.
 #[derive(Clone, Copy, Debug, PartialEq, Eq)]
@@ -25,16 +25,10 @@ pub enum JoinError {
     NoRoom,
 }
 
-// The numbers of a vertex.
-const NUMBERS: usize = 3;
-
 // The first and the last number of an operation; the last is exclusive or.
 const UNION: u32 = 1;
 
 const EXCLUSIVE: u32 = 4;
-
-// The most vertices for which the working room is small.
-const FEW: usize = 32;
 
 // Room for a merge of two lists.
 const ROOM: usize = 2 * MOST_VERTICES;
@@ -52,7 +46,7 @@ fn join_small(op: u32, a: TravelMap, b: TravelMap, most: usize, out: &mut [i16])
     requires most_bounds { (32 ≤ most) × (most ≤ most_vertices) × (per_vertex * most ≤ length out.old) }
     ensures { InRoom op a.entry.list.now b.entry.list.now most out.old result out.new }
 {
-    match sweep::join_in_room::<FEW>(op, a, b, FEW, out) {
+    match sweep::join_in_room::<SMALL>(op, a, b, SMALL, out) {
         None => sweep::join_in_room::<MOST_VERTICES>(op, a, b, most, out),
         few => few,
     }
@@ -63,11 +57,11 @@ fn join_by_sweep(op: u32, a: TravelMap, b: TravelMap, most: usize, out: &mut [i1
     requires most_bounds { (most ≤ most_vertices) × (per_vertex * most ≤ length out.old) }
     ensures { InRoom op a.entry.list.now b.entry.list.now most out.old result out.new }
 {
-    if NUMBERS * FEW < a.list.len().max(b.list.len()) {
+    if NUMBERS * SMALL < a.list.len().max(b.list.len()) {
         return sweep::join_in_room::<MOST_VERTICES>(op, a, b, most, out);
     }
-    if most < FEW {
-        return sweep::join_in_room::<FEW>(op, a, b, most, out);
+    if most < SMALL {
+        return sweep::join_in_room::<SMALL>(op, a, b, most, out);
     }
     join_small(op, a, b, most, out)
 }

@@ -12,6 +12,7 @@ ghost use Rattle.keys.specs.Parts.{KeyOk, PairOk, pair_of_key, axis_at, part_on}
 ghost use Rattle.keys.specs.Spelled.{Writes, Spells};
 
 use codes::{LINE, LOWEST, PLANE};
+use meaning::NUMBERS;
 
 // The axes by their numbers.
 pub const FOCUS: u32 = 0;
@@ -19,9 +20,6 @@ pub const FOCUS: u32 = 0;
 pub const FIRST_SHIFT: u32 = 1;
 
 pub const SECOND_SHIFT: u32 = 2;
-
-// The numbers of a vertex.
-const NUMBERS: usize = 3;
 
 // The numbers of a pair.
 const PAIR: usize = 2;

@@ -6,12 +6,8 @@ ghost use Rattle.meaning.specs.Lists.{vertices, most_vertices};
 ghost use Rattle.meaning.specs.Verdicts.{falls_at, on_odd_line_at};
 ghost use Rattle.lists.specs.Check.{InRange, AllRise, Offsets, pair_at, Filled, first_on};
 
-use crate::NUMBERS;
 use codes::LINE;
-use meaning::MOST_VERTICES;
-
-// The most vertices for which the working array is a small one.
-const SMALL: usize = 32;
+use meaning::{MOST_VERTICES, NUMBERS, SMALL};
 
 // The offsets, in a vertex, of two of its numbers: those that are left when an axis is left out.
 #[derive(Clone, Copy)]

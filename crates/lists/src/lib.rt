@@ -15,10 +15,7 @@ ghost use Rattle.lists.specs.Check.{Checked, AllNumbers};
 use codes::{HIGHEST, LOWEST};
 use corners::Corners;
 pub use map::TravelMap;
-use meaning::{MOST_VERTICES, Refusal};
-
-// The numbers of a vertex.
-const NUMBERS: usize = 3;
+use meaning::{MOST_VERTICES, NUMBERS, Refusal};
 
 // Whether a number is a corner number.
 fn is_number(x: i16) -> bool

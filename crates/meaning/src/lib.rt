@@ -11,6 +11,12 @@ use std::fmt;
 // The most vertices that a list may have: `most_vertices` of specs/Lists.antt, for array lengths and tests.
 pub const MOST_VERTICES: usize = 1024;
 
+// The most vertices for which working arrays are small ones.
+pub const SMALL: usize = 32;
+
+// The numbers of a vertex, and of a cell.
+pub const NUMBERS: usize = 3;
+
 // Why a list is no travel map, with the place of the first offending vertex where there is one.
 #[derive(Clone, Copy, Debug, PartialEq, Eq)]
 pub enum Refusal {

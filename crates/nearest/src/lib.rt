@@ -10,7 +10,7 @@ ghost use Rattle.nearest.specs.Ranks.{LeastRank, RankedFor, code_at, cell_of, fo
 ghost use Rattle.nearest.specs.declared.NearestError.TheVariants.{Refused};
 
 use lists::TravelMap;
-use meaning::{Cell, MOST_VERTICES, Reached, Refusal};
+use meaning::{Cell, MOST_VERTICES, NUMBERS, Reached, Refusal, SMALL};
 use ranks::{DISTANCE, END, Extent};
 
 // What one code of focus counts as distance, and one of either shift: `weight` of the distance's definition.
@@ -27,12 +27,6 @@ const SECOND_PLACE: u64 = 1;
 
 // A rank above that of every cell.
 const NONE: u64 = 1 << 60;
-
-// The numbers of a vertex.
-const NUMBERS: usize = 3;
-
-// The most vertices for which the working arrays are small ones.
-const SMALL: usize = 32;
 
 // Why there is no nearest cell.
 #[derive(Clone, Copy, Debug, PartialEq, Eq)]

@@ -7,8 +7,7 @@ ghost use Rattle.meaning.specs.Counting.{first};
 ghost use Rattle.reading.specs.Reading.{ill_at, numbers_from, closing_sum, counted, map_text, wish_text};
 ghost use Rattle.reading.specs.Read.{refused_number, refused_place, meant, AtMost};
 
-use frames::NUMBERS;
-use meaning::{MOST_VERTICES, Refusal};
+use meaning::{MOST_VERTICES, NUMBERS, Refusal};
 
 // The tags' second digits: a count, a vertex, a closing sum, a wish.
 const COUNT_TAG: u8 = b'1';

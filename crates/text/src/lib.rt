@@ -7,9 +7,8 @@ ghost use Rattle.reading.specs.Reading.{whole};
 ghost use Rattle.text.specs.Program.{with_map, Put, Responds};
 
 use answers::ANSWER_LINE;
-use frames::NUMBERS;
 use lists::TravelMap;
-use meaning::MOST_VERTICES;
+use meaning::{MOST_VERTICES, NUMBERS};
 use reading::{LONG_LINE, MAP_NUMBERS, MOST_WISHES, SHORT_LINE, WISH_NUMBERS};
 
 // The most bytes of input: the lines of a full map and of the most wishes.

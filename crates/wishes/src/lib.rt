@@ -11,14 +11,8 @@ ghost use Rattle.wishes.specs.Each.{wish_from, NearestPut, Wishable, EachPut};
 ghost use Rattle.wishes.specs.declared.WishError.TheVariants.{Refused};
 
 use lists::TravelMap;
-use meaning::{Cell, MOST_VERTICES, Refusal};
+use meaning::{Cell, MOST_VERTICES, NUMBERS, Refusal, SMALL};
 use nearest::Extents;
-
-// The numbers of a wish, of a cell and of a vertex.
-const NUMBERS: usize = 3;
-
-// The most vertices for which the working arrays are small ones.
-const SMALL: usize = 32;
 
 // Why many wishes are not answered.
 #[derive(Clone, Copy, Debug, PartialEq, Eq)]
