@@ -20,8 +20,8 @@ join_in_room-requires-clause-most_bound c = search rules
 few : (e : Else-max) → (length (vertices e.args.a.list.now) ≤ 32) × (length (vertices e.args.b.list.now) ≤ 32)
 few e = (omega (arith, length_vertices e.args.a.list.now, e.max.ensures), omega (arith, length_vertices e.args.b.list.now, e.max.ensures))
 
-pub join_in_room-requires-then-most-lt-FEW-clause-a_in_bounds : goal.join_in_room-requires-then-most-lt-FEW-clause-a_in_bounds
-join_in_room-requires-then-most-lt-FEW-clause-a_in_bounds c = few (goal.at.join_in_room-requires-then-most-lt-FEW-clause-a_in_bounds c).Else-max
+pub join_in_room-requires-then-most-lt-SMALL-clause-a_in_bounds : goal.join_in_room-requires-then-most-lt-SMALL-clause-a_in_bounds
+join_in_room-requires-then-most-lt-SMALL-clause-a_in_bounds c = few (goal.at.join_in_room-requires-then-most-lt-SMALL-clause-a_in_bounds c).Else-max
 
 pub join_small-requires-clause-a_len_bound : goal.join_small-requires-clause-a_len_bound
 join_small-requires-clause-a_len_bound c = few (goal.at.join_small-requires-clause-a_len_bound c).Else-max
