@@ -7,6 +7,7 @@ ghost use Rattle.meaning.specs.Numbers.{cell, corner};
 ghost use Rattle.travelmap.specs.Exports.{three_axes, CheckPacked, CellPacked, CornerPacked, PlanePacked, BoxPacked};
 ghost use Rattle.travelmap.specs.Exports.{JoinPacked, SectionPacked, SplitPacked, NearestPacked, DistancePacked, ManyPacked};
 
+use meaning::{Cell, Corner};
 use nearest::nearest_by;
 use packing::{
     pack_box, pack_cell, pack_corner, pack_distance, pack_join, pack_nearest, pack_part,
@@ -45,14 +46,24 @@ pub fn travelmap_box(
 pub fn travelmap_cell(list: &[i16], focus: i16, first: i16, second: i16) -> u64
     ensures { CellPacked list.now (cell focus first second) result }
 {
-    pack_cell(asks::cell_permitted(list, focus, first, second))
+    let cell = Cell {
+        focus,
+        first,
+        second,
+    };
+    pack_cell(asks::cell_permitted(list, cell))
 }
 
 // The corner report.
 pub fn travelmap_corner(list: &[i16], focus: i16, first: i16, second: i16) -> u64
     ensures { CornerPacked list.now (corner focus first second) result }
 {
-    pack_corner(asks::corner_report(list, focus, first, second))
+    let corner = Corner {
+        focus,
+        first,
+        second,
+    };
+    pack_corner(asks::corner_report(list, corner))
 }
 
 // Where the vertices with that focus number stand in the list.
