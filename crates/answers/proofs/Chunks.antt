@@ -3,7 +3,6 @@
 --   left_line           the line of a chunk is that of wish i
 --   left_more           a chunk less
 --   written_chunk       the line of a chunk more
---   left_done           where less than a chunk is left, i is how many wishes there are
 use mathlib.Core.Path.{◌≡◌, refl, sym, ◌∙◌, ap, subst}
 use mathlib.Core.List.{List, ◌++◌}
 use Prim.Native.Nat.{ℕ, ◌+◌, ◌*◌, ◌/◌, ◌≤◌, ◌<◌}
@@ -66,6 +65,3 @@ module _ {ws rest : List ℤ} {size i : ℕ} (l : Left ws rest size i) (left wis
       let more : Written c ws (i + 1) before after =
       written_more c ws i before now after line w (left_line c line a) (omega (arith, left_room)) put in
       subst (λ p. Written c ws n before (put_mid (17 * p) k now ys)) (sym ej) (subst (λ m. Written c ws m before after) (sym en) more)
-
-pub left_done : {ws rest : List ℤ} {size i : ℕ} → Left ws rest size i → length rest < size → i ≡ length ws / 3
-left_done {ws} {rest} {size} {i} l h = omega (arith, l.three, l.within, ap length l.from, length-drop (3 * i) ws)

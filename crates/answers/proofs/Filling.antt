@@ -1,6 +1,6 @@
 -- The answers, written one line after the other.
---   written_none, written_more, written_all    no line; one line more; all lines
-use mathlib.Core.Path.{◌≡◌, refl, sym, ◌∙◌, ap, ap₂, subst}
+--   written_more    one line more
+use mathlib.Core.Path.{◌≡◌, sym, ◌∙◌, ap, ap₂, subst}
 use mathlib.Core.List.{List, ◌++◌}
 use Prim.Native.Nat.{ℕ, ◌+◌, ◌*◌, ◌≤◌}
 use native.Mathlib.Omega.{arith}
@@ -11,9 +11,6 @@ use lib.Seq.{paste, take-paste, drop-paste, length-paste, take-length, drop-drop
 use Rattle.meaning.specs.declared.Corner.{Corner}
 use Rattle.answers.specs.Answers.{wish_at, AnswerLine, Answers, Written}
 use Rattle.answers.proofs.Lines.{answer_long}
-
-pub written_none : (l : List Corner) (ws : List ℤ) (out : List ℕ) → Written l ws 0 out out
-written_none l ws out = record { front = refl; behind = refl; long = refl }
 
 module _ (l : List Corner) (ws : List ℤ) (i : ℕ) (before now after line : List ℕ) (w : Written l ws i before now) (a : AnswerLine l (wish_at ws i) line)
     (room : 17 * i + 17 ≤ length before) (e : after ≡ paste now (17 * i) line (length line)) where
@@ -52,6 +49,3 @@ module _ (l : List Corner) (ws : List ℤ) (i : ℕ) (before now after line : Li
         behind = untouched;
         long = ap length e ∙ length-paste now (17 * i) line (length line) fits (omega arith) ∙ w.long;
       }
-
-pub written_all : (l : List Corner) (ws : List ℤ) {n i : ℕ} {before now : List ℕ} → Written l ws i before now → i ≤ n → n ≤ i → Written l ws n before now
-written_all l ws {n} {i} {before} {now} w h k = let is : i ≡ n = omega arith in subst (λ m. Written l ws m before now) is w

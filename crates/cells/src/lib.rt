@@ -6,12 +6,12 @@
 ghost use Rattle.std.specs.Prelude.{◌≡◌, [], ◌-◌, ◌*◌, ◌<◌, ◌≤◌, ◌^◌, leb, length, MatchOption};
 ghost use Rattle.meaning.proofs.Parity.{sum};
 ghost use Rattle.rows.specs.Rows.{bit_at};
-ghost use Rattle.ranks.specs.Values.{axis_codes, Sound};
+ghost use Rattle.ranks.specs.Values.{axis_codes};
 ghost use Rattle.cells.specs.Cells.{Best, Rank, Turned, point, line_in, line_unit, rest};
 ghost use Rattle.cells.specs.Line.{Above, numbers_of, NotAt, Once, Behind, Toggled, Tells};
 
 use codes::LINE;
-use ranks::{END, Scale, value_at, value_behind};
+use ranks::{END, Scale};
 use rows::BITS;
 
 // The words of a row that has a bit for each number of a line of keys.
@@ -19,14 +19,13 @@ const WORDS: usize = 32;
 
 // The lesser of best and the rank, from a base up, of the code just behind a number, if the number is a code.
 fn behind_one(second: Scale, number: u32, rank: u64, best: u64) -> u64
-    requires sound { Sound second }
-    requires rank_bound { rank < 2 ^ 60 }
+    requires { rank < 2 ^ 60 }
     ensures { Best (Behind second number rank) best result }
 {
     if END <= number {
         return best;
     }
-    best.min(rank + value_behind(second, number))
+    best.min(rank + second.value_behind(number))
 }
 
 // The number on its line of a pair that counts from a base.
@@ -53,7 +52,6 @@ fn odd_upto(pairs: &[u32], base: u32, code: u32) -> bool
 fn behind_each(pairs: &[u32], base: u32, second: Scale, rank: u64, best: u64) -> u64
     requires above { Above base pairs.now }
     requires once { Once (numbers_of base pairs.now) }
-    requires sound { Sound second }
     requires rank_bound { rank < 2 ^ 60 }
     ensures { Best (Turned 1 second point (numbers_of base pairs.now) 0 axis_codes rank) best result }
 {
@@ -95,7 +93,6 @@ fn fill(pairs: &[u32], base: u32, row: &mut [u64])
 fn behind_odd(pairs: &[u32], base: u32, row: &[u64], second: Scale, rank: u64, best: u64) -> u64
     requires above { Above base pairs.now }
     requires tells { Tells (numbers_of base pairs.now) row.now }
-    requires sound { Sound second }
     requires rank_bound { rank < 2 ^ 60 }
     ensures { Best (Turned 1 second point (numbers_of base pairs.now) 0 axis_codes rank) best result }
 {
@@ -112,7 +109,6 @@ fn behind_odd(pairs: &[u32], base: u32, row: &[u64], second: Scale, rank: u64, b
 // The least of best and the ranks, from a base up, of the cells of a line, where the wish's code is permitted there or no rank can be less than best.
 fn at_wish(pairs: &[u32], base: u32, second: Scale, rank: u64, best: u64) -> Option<u64>
     requires above { Above base pairs.now }
-    requires sound { Sound second }
     requires rank_bound { rank < 2 ^ 60 }
     ensures { MatchOption result (NotAt second.wish (numbers_of base pairs.now)) (Best (Rank (line_in second) (numbers_of base pairs.now) rank) best) }
 {
@@ -120,7 +116,7 @@ fn at_wish(pairs: &[u32], base: u32, second: Scale, rank: u64, best: u64) -> Opt
         return Some(best);
     }
     if odd_upto(pairs, base, second.wish) {
-        return Some(best.min(rank + value_at(second, second.wish)));
+        return Some(best.min(rank + second.value_at(second.wish)));
     }
     None
 }
@@ -129,7 +125,6 @@ fn at_wish(pairs: &[u32], base: u32, second: Scale, rank: u64, best: u64) -> Opt
 pub fn own_line(pairs: &[u32], base: u32, second: Scale, rank: u64, best: u64) -> u64
     requires above { Above base pairs.now }
     requires once { Once (numbers_of base pairs.now) }
-    requires sound { Sound second }
     requires rank_bound { rank < 2 ^ 60 }
     ensures { Best (Rank (line_in second) (numbers_of base pairs.now) rank) best result }
 {
@@ -142,7 +137,6 @@ pub fn own_line(pairs: &[u32], base: u32, second: Scale, rank: u64, best: u64) -
 // The same of the exclusive or of all lines that some pairs lie on.
 pub fn joint_line(pairs: &[u32], base: u32, second: Scale, rank: u64, best: u64) -> u64
     requires above { Above base pairs.now }
-    requires sound { Sound second }
     requires rank_bound { rank < 2 ^ 60 }
     ensures { Best (Rank (line_in second) (numbers_of base pairs.now) rank) best result }
 {

@@ -13,7 +13,6 @@ ghost use Rattle.lists.specs.Check.{Checked, AllNumbers, InRange, AllRise, Offse
 
 use codes::{HIGHEST, LINE, LOWEST};
 pub use map::TravelMap;
-
 use meaning::{MOST_VERTICES, Refusal};
 
 // The numbers of a vertex.

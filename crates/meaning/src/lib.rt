@@ -46,7 +46,8 @@ impl Refusal {
     {
         match self {
             Refusal::NotTriples | Refusal::TooMany => 0,
-            Refusal::OutOfRange(place) | Refusal::NotRising(place) | Refusal::OddLine(place) => place,
+            Refusal::OutOfRange(place) | Refusal::NotRising(place) | Refusal::OddLine(place) =>
+                place,
         }
     }
 }

@@ -87,11 +87,16 @@ pub fn rank_of(
     let x = extents.focus;
     let y = extents.first;
     let z = extents.second;
-    let a = ranks::bring(focus, x.low, x.high, FOCUS_WEIGHT, FOCUS_PLACE);
-    let b = ranks::bring(first, y.low, y.high, SHIFT_WEIGHT, FIRST_PLACE);
-    let d = ranks::bring(second, z.low, z.high, SHIFT_WEIGHT, SECOND_PLACE);
-    let rank = search::planes(keys, a, b, d, NONE, room, work);
-    let beyond = ranks::beyond(focus, a) + ranks::beyond(first, b) + ranks::beyond(second, d);
+    let a = ranks::Scale::bring(focus, x.low, x.high, FOCUS_WEIGHT, FOCUS_PLACE);
+    let b = ranks::Scale::bring(first, y.low, y.high, SHIFT_WEIGHT, FIRST_PLACE);
+    let d = ranks::Scale::bring(second, z.low, z.high, SHIFT_WEIGHT, SECOND_PLACE);
+    let scales = ranks::Scales {
+        focus: a,
+        first: b,
+        second: d,
+    };
+    let rank = search::planes(keys, scales, NONE, room, work);
+    let beyond = a.beyond(focus) + b.beyond(first) + d.beyond(second);
     rank + beyond * DISTANCE
 }
 

@@ -7,7 +7,8 @@ ghost use Rattle.meaning.specs.Counting.{All};
 ghost use Rattle.rising.specs.Merged.{From};
 ghost use Rattle.rows.specs.Rows.{holds_by, change, bit, Flipped, TookLine, PutOnes, PutLine};
 
-// The numbers of the operations; any other is exclusive or.
+// The numbers of the operations; any other is exclusive or. They are numbers here, and no enum: the wrong program joins/operation_five must be able
+// to hand on a 5.
 const UNION: u32 = 1;
 
 const OVERLAP: u32 = 2;

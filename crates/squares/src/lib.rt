@@ -4,13 +4,13 @@
 
 ghost use Rattle.std.specs.Prelude.{◌<◌, ◌≤◌, ◌^◌, length};
 ghost use Rattle.rising.specs.Merged.{less_base};
-ghost use Rattle.ranks.specs.Values.{axis_codes, Sound};
+ghost use Rattle.ranks.specs.Values.{axis_codes};
 ghost use Rattle.cells.specs.Cells.{Best, Rank, Edge, high, section_in, plane_unit};
 ghost use Rattle.squares.specs.Rising.{Rising, RunTo, BehindLines};
 
 use cells::{joint_line, own_line};
 use codes::LINE;
-use ranks::{END, Scale, value_at, value_behind};
+use ranks::{END, Scales};
 
 // Where the run of numbers with the high part of the one at place i ends; all count from a base.
 pub fn run_end(list: &[u32], base: u32, i: usize, unit: u32) -> usize
@@ -39,11 +39,10 @@ pub fn upto(list: &[u32], base: u32, code: u32, unit: u32) -> usize
 }
 
 // The least of best and the ranks, from a base up, of the squares just behind the lines that some pairs lie on.
-fn own_lines(pairs: &[u32], base: u32, first: Scale, second: Scale, rank: u64, best: u64) -> u64
+fn own_lines(pairs: &[u32], base: u32, scales: Scales, rank: u64, best: u64) -> u64
     requires rising { Rising base pairs.now }
-    requires sound { Sound first × Sound second }
     requires rank_bound { rank < 2 ^ 50 }
-    ensures { Best (BehindLines first second (less_base base pairs.now) rank) best result }
+    ensures { Best (BehindLines scales (less_base base pairs.now) rank) best result }
 {
     let mut found = best;
     // By an index: `run_end` says where a run ends, at one difference a number; `chunk_by` would divide at each two neighbours.
@@ -54,25 +53,24 @@ fn own_lines(pairs: &[u32], base: u32, first: Scale, second: Scale, rank: u64, b
             return found;
         }
         let e = run_end(pairs, base, i, LINE);
-        let near = rank + value_behind(first, line);
-        found = own_line(&pairs[i..e], base, second, near, found);
+        let near = rank + scales.first.value_behind(line);
+        found = own_line(&pairs[i..e], base, scales.second, near, found);
         i = e;
     }
     found
 }
 
 // The least of best and the ranks, from a base up, of all squares of some pairs.
-pub fn squares(pairs: &[u32], base: u32, first: Scale, second: Scale, rank: u64, best: u64) -> u64
+pub fn squares(pairs: &[u32], base: u32, scales: Scales, rank: u64, best: u64) -> u64
     requires rising { Rising base pairs.now }
-    requires sound { Sound first × Sound second }
     requires rank_bound { rank < 2 ^ 50 }
-    ensures { Best (Rank (section_in first second) (less_base base pairs.now) rank) best result }
+    ensures { Best (Rank (section_in scales.first scales.second) (less_base base pairs.now) rank) best result }
 {
     if best <= rank {
         return best;
     }
-    let place = upto(pairs, base, first.wish, LINE);
-    let at_wish = rank + value_at(first, first.wish);
-    let found = joint_line(&pairs[..place], base, second, at_wish, best);
-    own_lines(pairs, base, first, second, rank, found)
+    let place = upto(pairs, base, scales.first.wish, LINE);
+    let at_wish = rank + scales.first.value_at(scales.first.wish);
+    let found = joint_line(&pairs[..place], base, scales.second, at_wish, best);
+    own_lines(pairs, base, scales, rank, found)
 }

@@ -6,4 +6,4 @@ use Rattle.cells.proofs.at_wish.Goals as goal
 
 pub returns-then-odd_upto : goal.returns-then-odd_upto
 returns-then-odd_upto c =
-    line_here c.requires.sound (sym c.if-odd_upto.true ∙ c.odd_upto.ensures) (omega (arith, c.min.ensures, c.value_at.ensures.is))
+    line_here c.args.second (sym c.if-odd_upto.true ∙ c.odd_upto.ensures) (omega (arith, c.min.ensures, c.value_at.ensures.is))

@@ -8,4 +8,4 @@ pub fill-requires-clause-tells : goal.fill-requires-clause-tells
 fill-requires-clause-tells c = tells_none
 
 pub returns : goal.returns
-returns c = line_behind c.requires.sound (sym c.in_default.ensures) c.behind_odd.ensures
+returns c = line_behind c.args.second (sym c.in_default.ensures) c.behind_odd.ensures

@@ -4,4 +4,4 @@ use Rattle.cells.proofs.Line.{line_behind}
 use Rattle.cells.proofs.own_line.Goals as goal
 
 pub returns : goal.returns
-returns c = line_behind c.requires.sound (sym c.in_default.ensures) c.behind_each.ensures
+returns c = line_behind c.args.second (sym c.in_default.ensures) c.behind_each.ensures

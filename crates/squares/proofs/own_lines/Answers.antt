@@ -32,7 +32,7 @@ loop-i-init c =
     record {
       cut = cut_none (high line_unit) (less_base c.args.base c.args.pairs.now) 0 (omega arith);
       order = omega arith;
-      seen = turned_first line_unit c.args.first (line_in c.args.second) (less_base c.args.base c.args.pairs.now) c.args.rank (omega arith) c.requires.rising.rising;
+      seen = turned_first line_unit c.args.scales.first (line_in c.args.scales.second) (less_base c.args.base c.args.pairs.now) c.args.rank (omega arith) c.requires.rising.rising;
     }
 
 pub returns-then-line-ge-END : goal.returns-then-line-ge-END
@@ -45,7 +45,6 @@ own_line-found-requires c = record {
   above = above_run c.args.base c.args.pairs.now c.loop-i.i c.run_end-e.result (ended (goal.at.own_line-found-requires c).After-run_end-e) c.requires.rising.above;
   once = subst (λ (m : List ℕ). Once (map (rest line_unit) m)) (sym (less_run c.args.base c.args.pairs.now c.loop-i.i c.run_end-e.result))
       (once line_unit (less_base c.args.base c.args.pairs.now) c.loop-i.i c.run_end-e.result c.requires.rising.rising c.run_end-e.ensures.run);
-  sound = c.requires.sound.1;
   rank_bound = omega (arith, c.requires.rank_bound, c.value_behind.ensures.small);
 }
 
@@ -53,11 +52,11 @@ pub loop-i-preserved : goal.loop-i-preserved
 loop-i-preserved c =
     let h = c.loop-i-test.true in
     let n = number (goal.at.loop-i-preserved c).At-loop-i h in
-    let b = ap (λ m. c.args.rank + value c.args.first (behind c.args.first.wish m)) (sym n) in
+    let b = ap (λ m. c.args.rank + value c.args.scales.first (behind c.args.scales.first.wish m)) (sym n) in
     passed_on (omega arith) c.requires.rising.rising c.loop-i.invariant c.run_end-e.ensures.run c.run_end-e.ensures.cut (omega (arith, n, c.if-line-ge-END.false))
-    (subst (λ (k : ℕ). Best (Rank (line_in c.args.second) (map (rest line_unit) (run_of (less_base c.args.base c.args.pairs.now) c.loop-i.i c.run_end-e.result)) k) c.loop-i.found c.own_line-found.result)
+    (subst (λ (k : ℕ). Best (Rank (line_in c.args.scales.second) (map (rest line_unit) (run_of (less_base c.args.base c.args.pairs.now) c.loop-i.i c.run_end-e.result)) k) c.loop-i.found c.own_line-found.result)
     (ap (c.args.rank +◌) c.value_behind.ensures.is ∙ b)
-    (subst (λ (m : List ℕ). Best (Rank (line_in c.args.second) (map (rest line_unit) m) (c.args.rank + c.value_behind.result)) c.loop-i.found c.own_line-found.result)
+    (subst (λ (m : List ℕ). Best (Rank (line_in c.args.scales.second) (map (rest line_unit) m) (c.args.rank + c.value_behind.result)) c.loop-i.found c.own_line-found.result)
     (less_run c.args.base c.args.pairs.now c.loop-i.i c.run_end-e.result) c.own_line-found.ensures))
 
 pub returns : goal.returns

@@ -7,7 +7,7 @@ use Rattle.squares.proofs.Walk.{Passed}
 use Rattle.squares.proofs.own_lines.Given as goal
 
 abbrev pub invariant-loop-i : goal.invariant-loop-i
-invariant-loop-i l = Passed line_unit l.first (line_in l.second) (less_base l.base l.pairs) l.rank 0 l.best l.i l.found
+invariant-loop-i l = Passed line_unit l.scales.first (line_in l.scales.second) (less_base l.base l.pairs) l.rank 0 l.best l.i l.found
 
 abbrev pub decreases-loop-i : goal.decreases-loop-i
 decreases-loop-i l = length l.pairs - l.i

@@ -12,15 +12,15 @@ use Rattle.squares.proofs.squares.Goals as goal
 
 pub returns-then-best-rank : goal.returns-then-best-rank
 returns-then-best-rank c =
-    rank_stop (section_in c.args.first c.args.second) (less_base c.args.base c.args.pairs.now) c.args.rank c.args.best c.if-best-rank.true
+    rank_stop (section_in c.args.scales.first c.args.scales.second) (less_base c.args.base c.args.pairs.now) c.args.rank c.args.best c.if-best-rank.true
 
 pub returns : goal.returns
 returns c =
     let same = map_take (λ k. k - c.args.base) c.upto-place.result c.args.pairs.now in
-    axis_least c.requires.sound.0
-    (here_of line_unit c.args.first (line_in c.args.second) (less_base c.args.base c.args.pairs.now) c.args.rank c.upto-place.result c.upto-place.ensures
-    (subst (λ (n : ℕ). Best (Rank (line_in c.args.second) (map (rest line_unit) (take c.upto-place.result (less_base c.args.base c.args.pairs.now))) n) c.args.best c.joint_line-found.result)
+    axis_least {scale = c.args.scales.first}
+    (here_of line_unit c.args.scales.first (line_in c.args.scales.second) (less_base c.args.base c.args.pairs.now) c.args.rank c.upto-place.result c.upto-place.ensures
+    (subst (λ (n : ℕ). Best (Rank (line_in c.args.scales.second) (map (rest line_unit) (take c.upto-place.result (less_base c.args.base c.args.pairs.now))) n) c.args.best c.joint_line-found.result)
     (ap (c.args.rank +◌) c.value_at.ensures.is)
-    (subst (λ (m : List ℕ). Best (Rank (line_in c.args.second) (map (rest line_unit) m) (c.args.rank + c.value_at.result)) c.args.best c.joint_line-found.result)
+    (subst (λ (m : List ℕ). Best (Rank (line_in c.args.scales.second) (map (rest line_unit) m) (c.args.rank + c.value_at.result)) c.args.best c.joint_line-found.result)
     same c.joint_line-found.ensures)))
     c.own_lines.ensures

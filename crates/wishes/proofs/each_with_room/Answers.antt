@@ -41,11 +41,10 @@ loop-i-init c =
     let n : 3 * c.into_iter-i-iterator.result.count ≡ 0 = omega (arith, ap (λ i. i.count) c.into_iter-i-iterator.ensures.into_iter_gives) in
     let ns = c.args.list.now in
     let ws = c.args.wishes.now in
-    let before = c.args.cells.now in
-    (
+    let before = c.args.cells.now in (
       cc,
       subst (λ (l : List ℤ). Putting ns ws before l before (3 * c.into_iter-i-iterator.result.count)) (sym e)
-      (subst (λ (at : ℕ). Putting ns ws before ws before at) (sym n) (putting_begins ns ws before)),
+          (subst (λ (at : ℕ). Putting ns ws before ws before at) (sym n) (putting_begins ns ws before)),
     )
 
 pub loop-i-preserved : goal.loop-i-preserved
@@ -65,8 +64,7 @@ loop-i-preserved c =
     let after = c.put_nearest.new.cells in
     let one =
     subst (λ (i : ℕ). NearestPut (map of_key (take c.read-n.result c.read-n.new.out)) (wish_from wish 0) (3 * i) now after) place c.put_nearest.ensures in
-    let more : at + 3 ≡ 3 * c.next.new.self.count = omega (arith, next) in
-    (
+    let more : at + 3 ≡ 3 * c.next.new.self.count = omega (arith, next) in (
       chunk.0 ∙ size,
       subst (λ (n : ℕ). Putting ns ws before left after n) more (puts ns ws before c.requires.wishable wish left now at m (chunk.1.1 ∙ size) _ e after one),
     )
