@@ -17,11 +17,10 @@ ghost use Rattle.packing.specs.Packed.{packed_nearest, packed_distance};
 
 use asks::{Ends, Report};
 use boxes::BoxError;
-use cuts::{SectionError, SplitError};
+use cuts::{Halves, SectionError, SplitError};
 use joins::JoinError;
 use meaning::{Cell, Reached, Refusal};
 use nearest::NearestError;
-use parts::Halves;
 use wishes::WishError;
 
 // Where each value of an answer begins in the packed number.
