@@ -25,11 +25,11 @@ use Rattle.std.specs.Prelude.{Result, Ok, Err, is_err}
 use Rattle.meaning.specs.declared.Refusal.{Refusal}
 use Rattle.meaning.specs.Counting.{count, keep}
 use Rattle.meaning.specs.Kinds.{kind}
-use Rattle.meaning.specs.Outcomes.{Outcome, outcome, Nothing, nothing, done, refused, verdict_values, kept, checked}
+use Rattle.meaning.specs.Outcomes.{Outcome, outcome, Nothing, nothing, done, kept, checked}
 use Rattle.meaning.proofs.Integers.{not_yes}
 use Rattle.meaning.proofs.Maps.{valid_within}
 use Rattle.meaning.proofs.Checked.{passes_valid}
-use Rattle.meaning.proofs.Outcomes.{verdict_by, verdict_back, verdict_once, checked_next, checked_refused}
+use Rattle.meaning.proofs.Outcomes.{verdict_by, verdict_back, checked_next}
 use Rattle.kinds.proofs.Masks.{ones_mask}
 use Rattle.codes.specs.Lift.{lifted}
 use Rattle.lists.specs.Check.{Checked}

@@ -10,7 +10,7 @@
 --   Pointer, number_bytes, behind  where a slice lies, as its reference has it; how many bytes a number takes; so many numbers behind, in the same object
 --   Part, plane_says               what a slice holds and where it lies; the part that is handed back
 --   plane_outcome, PlanePromise    what the plane query comes to: those numbers, at their place in the caller's own list, an empty part too; and its promise
-use Rattle.std.specs.Prelude.{◌≡◌, Bool, true, false, cond, List, [], ℕ, ◌+◌, ◌*◌, ℤ, Result, Ok, Err}
+use Rattle.std.specs.Prelude.{◌≡◌, Bool, false, cond, List, [], ℕ, ◌+◌, ◌*◌, ℤ, Result, Ok, Err}
 use Rattle.std.specs.Int.Signed.{le_z, lt_z}
 use Rattle.meaning.specs.declared.Cell.{Cell}
 use Rattle.meaning.specs.declared.Corner.{Corner}

@@ -28,10 +28,7 @@ pub fn cell_permitted(list: &[i16], cell: Cell) -> Result<bool, Refusal>
     ensures { CellPromise list.now cell result }
 {
     lists::check(list)?;
-    let x = codes::lift(cell.focus);
-    let y = codes::lift(cell.first);
-    let z = codes::lift(cell.second);
-    Ok(pass::parity(list, x, y, z))
+    Ok(pass::parity(list, cell))
 }
 
 // The mask of the permitted cells round the corner, how many they are, and the kind.
@@ -39,10 +36,7 @@ pub fn corner_report(list: &[i16], corner: Corner) -> Result<Report, Refusal>
     ensures { CornerPromise list.now corner result }
 {
     lists::check(list)?;
-    let x = codes::lift(corner.focus);
-    let y = codes::lift(corner.first);
-    let z = codes::lift(corner.second);
-    let mask = pass::mask_round(list, x, y, z);
+    let mask = pass::mask_round(list, corner);
     Ok(Report {
         mask,
         how_many: kinds::count_of(mask),

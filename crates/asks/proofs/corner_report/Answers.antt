@@ -1,11 +1,6 @@
 -- `asks::corner_report` meets its contract: the check's verdict, the mask of one pass, its ones and its kind.
-use Rattle.std.proofs.Common.{rules}
-use mathlib.Core.Path.{ap, ◌∙◌}
 use Rattle.std.proofs.lemmas.Result.{err_from_is_err_and}
-use Rattle.meaning.specs.Numbers.{corner}
-use Rattle.meaning.specs.Lists.{vertices, permitted, mask}
 use Rattle.asks.proofs.Answers.{corner_refused, corner_said}
-use Rattle.asks.proofs.Passes.{crossing_back}
 use Rattle.asks.proofs.corner_report.Goals as goal
 
 pub returns-in_err-check : goal.returns-in_err-check
@@ -15,9 +10,4 @@ returns-in_err-check c =
 
 -- the mask of the pass is the corner's
 pub returns : goal.returns
-returns c =
-    let x = crossing_back c.args.corner.focus _ (search rules) c.lift-x.ensures in
-    let y = crossing_back c.args.corner.first _ (search rules) c.lift-y.ensures in
-    let z = crossing_back c.args.corner.second _ (search rules) c.lift-z.ensures in
-    corner_said _ _ _ _ _ c.in_ok-check.ensures (c.mask_round-mask.ensures ∙ ap (mask (permitted (vertices c.args.list.now))) (λ i. corner (x i) (y i) (z i)))
-    c.count_of.ensures c.kind_of.ensures
+returns c = corner_said _ _ _ _ _ c.in_ok-check.ensures c.mask_round-mask.ensures c.count_of.ensures c.kind_of.ensures

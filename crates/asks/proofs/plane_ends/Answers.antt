@@ -1,6 +1,5 @@
 -- `asks::plane_ends` meets its contract: the two passes stop where the plane starts and where it ends.
 use Rattle.std.proofs.Common.{rules}
-use mathlib.Core.Path.{sym, ◌∙◌}
 use Rattle.asks.specs.Passes.{under}
 use Rattle.asks.proofs.Answers.{refused_by, passed_by, ends_refused, ends_said}
 use Rattle.asks.proofs.Passes.{crossing}
