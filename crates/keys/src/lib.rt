@@ -24,7 +24,8 @@ pub const SECOND_SHIFT: u32 = 2;
 // The numbers of a pair.
 const PAIR: usize = 2;
 
-// How many steps above the lowest a key's corner lies on an axis.
+// How many steps above the lowest a key's corner lies on an axis. The axis is a number, and no enum: the wrong program cuts/bad_axis_let_through must
+// be able to hand on one that names none.
 pub fn part_on(key: u32, axis: u32) -> u32
     ensures { result ≡ part_on (axis_at axis) key }
 {

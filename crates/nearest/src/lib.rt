@@ -25,7 +25,7 @@ const FIRST_PLACE: u64 = 1 << 10;
 
 const SECOND_PLACE: u64 = 1;
 
-// A rank above that of every cell.
+// A rank above that of every cell, from which the search for the least sets out; no Option, since the least of ranks is only ever lowered.
 const NONE: u64 = 1 << 60;
 
 // Why there is no nearest cell.

@@ -35,7 +35,7 @@ const SECOND: u64 = 1 << 16;
 // Where how many cells are permitted begins in the corner report.
 const HOW_MANY: u16 = 1 << 8;
 
-// The numbers of answers (document 01, "Why a call comes back") that are packed here.
+// The numbers of answers (document 01, "Why a call comes back") that are packed here: C reads them as numbers.
 const DONE: u8 = 0;
 
 const NO_ROOM: u8 = 6;

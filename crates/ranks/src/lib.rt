@@ -102,7 +102,8 @@ pub struct Extent {
     pub high: u32,
 }
 
-// From where to where the parts of some keys lie on an axis: a wish outside is first brought to there, so that the search can stop early.
+// From where to where the parts of some keys lie on an axis, which is a number as `keys::part_on` takes it: a wish outside is first brought to there,
+// so that the search can stop early.
 pub fn extend(keys: &[u32], axis: u32) -> Extent
     requires { (i : ℕ) → i < length keys.now → part_on (axis_at axis) (get_or keys.now i 0) ≤ axis_codes }
     ensures { Extends (axis_at axis) keys.now result }

@@ -17,7 +17,7 @@ pub const MOST_BYTES: usize = 2 * SHORT_LINE + LONG_LINE * (MOST_VERTICES + MOST
 // The most bytes that are written: an answer to each of the most wishes.
 pub const MOST_WRITTEN: usize = ANSWER_LINE * MOST_WISHES;
 
-// The refusal of input that is too long.
+// The number of the refusal of input that is too long: one case, with no place, needs no type.
 const TOO_LONG: usize = 12;
 
 // Writes the answers to the wishes behind a map, or the refusal of their text; answers how many bytes are written.
