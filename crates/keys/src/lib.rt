@@ -100,7 +100,8 @@ fn write_each<const WIDTH: usize, F: Fn(u32, &mut [i16])>(
     }
 }
 
-// Writes the vertices of some keys, three numbers each, to the front of out.
+// Writes the vertices of some keys, three numbers each, to the front of out. That they are keys of corners is asked here and is no invariant of a type:
+// keys stand in lent room that is written anew from step to step.
 pub fn write(keys: &[u32], out: &mut [i16])
     requires all { All KeyOk keys.now }
     requires keys_in_bounds { 3 * length keys.now ≤ length out.old }

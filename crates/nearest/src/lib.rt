@@ -68,7 +68,8 @@ pub fn extents_of(keys: &[u32]) -> Extents
     }
 }
 
-// Inner: the least rank of the cells of the map of some keys, for a wish that is given by its steps above -32768; room and work are to work in.
+// Inner: the least rank of the cells of the map of some keys, for a wish that is given by its steps above -32768, which are three numbers and no cell;
+// room and work are to work in.
 pub fn rank_of(
     keys: &[u32],
     extents: Extents,

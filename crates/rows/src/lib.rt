@@ -74,7 +74,8 @@ pub fn take_line(row: &mut [u64], keys: &[u32], i: usize, start: u32, limit: u32
     keys.len()
 }
 
-// Puts out, behind n keys, a key for each one of a word, from a first key on, and answers how many keys that makes, whether they fit or not.
+// Puts out, behind n keys, a key for each one of a word, from a first key on, and answers how many keys that makes, whether they fit or not. A list that
+// grows is, without a heap, a lent slice and how many keys it has.
 fn put_ones(ones: u64, at: u32, out: &mut [u32], n: usize) -> usize
     requires { (at + 64 ≤ 2 ^ 32) × (n ≤ 2 ^ 62) }
     ensures { PutOnes ones at out.old n out.new result }
