@@ -4,9 +4,7 @@ ghost use Rattle.std.specs.Prelude.{◌≡◌, ◌+◌, ◌*◌, ◌≤◌, map,
 ghost use Rattle.meaning.specs.Lists.{vertices, at_or_below, permitted, mask};
 ghost use Rattle.asks.specs.Passes.{vertex_at, side, over, under, leading};
 
-use meaning::{Cell, Corner};
-
-use meaning::NUMBERS;
+use meaning::{Cell, Corner, NUMBERS};
 
 // Where a vertex lies below the corner on an axis, all eight cells may lie above it.
 const ALL: u8 = u8::MAX;
