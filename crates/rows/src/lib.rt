@@ -65,11 +65,13 @@ pub fn take_line(row: &mut [u64], keys: &[u32], i: usize, start: u32, limit: u32
     requires all { All (λ k. (start ≤ k) × (k < limit → k < start + 64 * length row.old)) (drop i keys.now) }
     ensures { TookLine keys.now i start limit row.old row.new result }
 {
-    for (passed, key) in keys[i..].iter().enumerate() {
-        if limit <= *key {
-            return i + passed;
+    // By places: a count beside an iterator makes a join some 6 % slower.
+    for e in i..keys.len() {
+        let key = keys[e];
+        if limit <= key {
+            return e;
         }
-        flip(row, (*key - start) as usize);
+        flip(row, (key - start) as usize);
     }
     keys.len()
 }
