@@ -10,7 +10,7 @@ ghost use Rattle.search.specs.Search.{Even, Above, Below, OneSide};
 
 use codes::PLANE;
 use ranks::{END, Scales};
-use squares::{run_end, squares, upto};
+use squares::RisingList;
 
 // Where the run of numbers with the high part of the one before place i begins.
 fn run_start(list: &[u32], i: usize, unit: u32) -> usize
@@ -57,6 +57,10 @@ fn planes_above(keys: &[u32], place: usize, scales: Scales, best: u64) -> u64
     requires edge { Edge (high plane_unit) keys.now scales.focus.wish place }
     ensures { Best (Above scales keys.now place) best result }
 {
+    let rising = RisingList {
+        list: keys,
+        base: 0,
+    };
     let mut found = best;
     // By an index: `run_end` says where a plane ends, at one difference a key; `chunk_by` would divide at each two neighbours.
     let mut i = place;
@@ -69,8 +73,12 @@ fn planes_above(keys: &[u32], place: usize, scales: Scales, best: u64) -> u64
         if found <= rank {
             return found;
         }
-        let e = run_end(keys, 0, i, PLANE);
-        found = squares(&keys[i..e], number * PLANE, scales, rank, found);
+        let e = rising.run_end(i, PLANE);
+        let pairs = RisingList {
+            list: &keys[i..e],
+            base: number * PLANE,
+        };
+        found = pairs.squares(scales, rank, found);
         i = e;
     }
     found
@@ -92,7 +100,11 @@ fn planes_below(keys: &[u32], place: usize, scales: Scales, best: u64) -> u64
             return found;
         }
         let j = run_start(keys, i, PLANE);
-        found = squares(&keys[j..i], number * PLANE, scales, rank, found);
+        let pairs = RisingList {
+            list: &keys[j..i],
+            base: number * PLANE,
+        };
+        found = pairs.squares(scales, rank, found);
         i = j;
     }
     found
@@ -105,10 +117,18 @@ pub fn planes(keys: &[u32], scales: Scales, best: u64, room: &mut [u32], work: &
     requires keys_in_bounds { (length keys.now ≤ length room.old) × (length keys.now ≤ length work.old) }
     ensures { Best (Rank (map_in scales.focus scales.first scales.second) keys.now 0) best result }
 {
-    let place = upto(keys, 0, scales.focus.wish, PLANE);
+    let rising = RisingList {
+        list: keys,
+        base: 0,
+    };
+    let place = rising.upto(scales.focus.wish, PLANE);
     let n = section(keys, place, room, work);
     let rank = scales.focus.value_at(scales.focus.wish);
-    let at_wish = squares(&room[..n], 0, scales, rank, best);
+    let pairs = RisingList {
+        list: &room[..n],
+        base: 0,
+    };
+    let at_wish = pairs.squares(scales, rank, best);
     let above = planes_above(keys, place, scales, at_wish);
     planes_below(keys, place, scales, above)
 }

@@ -15,17 +15,11 @@ use Rattle.search.proofs.planes.Goals.{After-upto-place}
 edge : (u : After-upto-place) → Edge (high plane_unit) u.args.keys.now u.args.scales.focus.wish u.upto-place.result
 edge u = edge_on_list plane_unit u.args.scales.focus.wish u.args.keys.now u.upto-place.result u.upto-place.ensures
 
-pub upto-place-requires : goal.upto-place-requires
-upto-place-requires c = record {
-  unit_nonzero = (omega arith, omega arith, c.args.scales.focus.sound.0);
-  rising = from_rising c.args.keys.now c.requires.from;
-}
+pub invariant_of-rising : goal.invariant_of-rising
+invariant_of-rising c = record { rising = from_rising c.args.keys.now c.requires.from }
 
-pub squares-at_wish-requires : goal.squares-at_wish-requires
-squares-at_wish-requires c = record {
-  rising = section_rising c.args.keys.now c.upto-place.result c.section-n.new.room c.section-n.result c.section-n.ensures;
-  rank_bound = omega (arith, c.value_at-rank.ensures.small);
-}
+pub invariant_of-pairs : goal.invariant_of-pairs
+invariant_of-pairs c = record { rising = section_rising c.args.keys.now c.upto-place.result c.section-n.new.room c.section-n.result c.section-n.ensures }
 
 pub planes_above-above-requires : goal.planes_above-above-requires
 planes_above-above-requires c = record {

@@ -27,17 +27,12 @@ returns-then-found-rank c =
     (turned_above plane_unit c.args.scales.focus (section_in c.args.scales.first c.args.scales.second) c.args.keys.now 0 (omega arith) c.requires.from
     h (c.requires.edge.beyond c.loop-i.i c.loop-i.invariant.1 h) (omega (arith, c.value_behind-rank.ensures.is, c.if-found-rank.true)))
 
-pub run_end-e-requires : goal.run_end-e-requires
-run_end-e-requires c = record {
-  unit_nonzero = omega arith;
-  rising = from_rising c.args.keys.now c.requires.from;
-  i_in_bounds = c.loop-i-test.true;
-}
+pub invariant_of-rising : goal.invariant_of-rising
+invariant_of-rising c = record { rising = from_rising c.args.keys.now c.requires.from }
 
-pub squares-found-requires : goal.squares-found-requires
-squares-found-requires c = record {
-  rising = plane_rising plane_unit c.args.keys.now c.loop-i.i c.run_end-e.result c.requires.from (ends (goal.at.squares-found-requires c).After-run_end-e).0;
-  rank_bound = omega (arith, c.value_behind-rank.ensures.small);
+pub invariant_of-pairs : goal.invariant_of-pairs
+invariant_of-pairs c = record {
+  rising = plane_rising plane_unit c.args.keys.now c.loop-i.i c.run_end-e.result c.requires.from (ends (goal.at.invariant_of-pairs c).After-run_end-e).0;
 }
 
 pub loop-i-preserved : goal.loop-i-preserved

@@ -32,11 +32,10 @@ returns-then-found-rank c =
     (turned_below plane_unit c.args.scales.focus (section_in c.args.scales.first c.args.scales.second) c.args.keys.now 0 (omega arith) c.requires.from
     h c.loop-i.invariant.0.cut.within (low (goal.at.returns-then-found-rank c).At-loop-i h) (omega (arith, c.value_behind-rank.ensures.is, c.if-found-rank.true)))
 
-pub squares-found-requires : goal.squares-found-requires
-squares-found-requires c = record {
-  rising = subst (λ (n : ℕ). Rising (n * plane_unit) (run_of c.args.keys.now c.run_start-j.result c.loop-i.i)) (same (goal.at.squares-found-requires c).After-run_start-j)
+pub invariant_of-pairs : goal.invariant_of-pairs
+invariant_of-pairs c = record {
+  rising = subst (λ (n : ℕ). Rising (n * plane_unit) (run_of c.args.keys.now c.run_start-j.result c.loop-i.i)) (same (goal.at.invariant_of-pairs c).After-run_start-j)
       (plane_rising plane_unit c.args.keys.now c.run_start-j.result c.loop-i.i c.requires.from c.run_start-j.ensures.0);
-  rank_bound = omega (arith, c.value_behind-rank.ensures.small);
 }
 
 pub loop-i-preserved : goal.loop-i-preserved
