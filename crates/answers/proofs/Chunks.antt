@@ -13,7 +13,8 @@ use lib.ListN.{length, drop, get_or, length-append, length-drop}
 use lib.Seq.{paste}
 use Rattle.std.proofs.lemmas.Slice.{put_mid-paste}
 use Rattle.std.proofs.lemmas.List.{get_or-drop, get_or_append_left, drop_at, drop-drop}
-use Rattle.meaning.specs.Numbers.{Corner, cell}
+use Rattle.meaning.specs.Numbers.{cell}
+use Rattle.meaning.specs.declared.Corner.{Corner}
 use Rattle.answers.specs.Answers.{wish_at, AnswerLine, Written}
 use Rattle.answers.proofs.Lines.{answer_long}
 use Rattle.answers.proofs.Filling.{written_more}

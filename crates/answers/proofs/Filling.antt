@@ -8,7 +8,7 @@ use native.Mathlib.Numerals.{add-one}
 use lib.IntN.{ℤ}
 use lib.ListN.{length, take, drop}
 use lib.Seq.{paste, take-paste, drop-paste, length-paste, take-length, drop-drop}
-use Rattle.meaning.specs.Numbers.{Corner}
+use Rattle.meaning.specs.declared.Corner.{Corner}
 use Rattle.answers.specs.Answers.{wish_at, AnswerLine, Answers, Written}
 use Rattle.answers.proofs.Lines.{answer_long}
 

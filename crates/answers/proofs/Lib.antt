@@ -2,3 +2,4 @@
 pub mod Lines
 pub mod Filling
 pub mod Chunks
+pub mod Stated

@@ -1,6 +1,6 @@
 -- The lines that are written.
 --   four_then                          the four digits of a number, one by one, and what stands behind them
---   answer_at, answer_empty, answer_refused   what nearest answers of a valid list is the line of the wish
+--   answer_at, answer_empty, answer_refused   what nearest answers of a travel map is the line of the wish
 --   answer_long, answers_long          an 05 line has 17 bytes, and n of them 17n
 use mathlib.Core.Path.{◌≡◌, sym, ◌∙◌, ap, subst}
 use mathlib.Core.Bool.{true≢false, false≢true}
@@ -9,14 +9,16 @@ use Prim.Native.Nat.{ℕ, zero, suc, ◌*◌}
 use native.Mathlib.Omega.{arith}
 use lib.IntN.{ℤ}
 use lib.ListN.{length, get_or, length-append}
-use Rattle.meaning.specs.Numbers.{Cell, Corner, cell}
+use Rattle.std.specs.Prelude.{Ok, Err}
+use Rattle.meaning.specs.declared.Cell.{Cell}
+use Rattle.meaning.specs.declared.Corner.{Corner}
+use Rattle.meaning.specs.declared.Reached.{Reached}
 use Rattle.meaning.specs.Lists.{vertices, permitted}
-use Rattle.meaning.specs.Verdicts.{verdict, passes}
+use Rattle.meaning.specs.Verdicts.{Valid, verdict, passes}
+use Rattle.meaning.specs.declared.Refusal.{Refusal}
 use Rattle.meaning.specs.Nearest.{Nearest}
-use Rattle.meaning.specs.declared.Verdict.{Verdict}
-use Rattle.meaning.specs.declared.Verdict.TheVariants.{Valid}
 use Rattle.nearest.specs.Answer.{Answered}
-use Rattle.nearest.specs.declared.Found.TheVariants.{At, Empty, Refused}
+use Rattle.nearest.specs.declared.NearestError.TheVariants.{Empty, Refused}
 use Rattle.nearest.proofs.Promise.{found_cell, found_empty, found_refused}
 use Rattle.frames.specs.Frames.{four_digits}
 use Rattle.answers.specs.Answers.{cell_line, empty_line, wish_at, AnswerLine, Answers}
@@ -39,15 +41,15 @@ answers_long l ws (suc n) out p =
 -- ---- what nearest answers, as a line
 
 module _ (ns : List ℤ) (w : Cell) (line : List ℕ) where
-  pub answer_at : (a b d : ℤ) (n : ℕ) → Answered ns w (At a b d n) → line ≡ cell_line (cell a b d) → AnswerLine (vertices ns) w line
-  answer_at a b d n h e = by (vertices ns) (found_cell ns w a b d n h).1
+  pub answer_at : (r : Reached) → Answered ns w (Ok r) → line ≡ cell_line r.at → AnswerLine (vertices ns) w line
+  answer_at r h e = by (vertices ns) (found_cell ns w r h).1
     where
-      by : (l : List Corner) → Nearest (permitted l) w (cell a b d) → AnswerLine l w line
+      by : (l : List Corner) → Nearest (permitted l) w r.at → AnswerLine l w line
       by [] p = absurd (false≢true p.member)
-      by (v ∷ l) p = record { at = cell a b d; nearest = p; is = e }
+      by (v ∷ l) p = record { at = r.at; nearest = p; is = e }
 
-  pub answer_empty : Answered ns w Empty → line ≡ empty_line → AnswerLine (vertices ns) w line
+  pub answer_empty : Answered ns w (Err Empty) → line ≡ empty_line → AnswerLine (vertices ns) w line
   answer_empty h e = subst (λ l. AnswerLine l w line) (sym (found_empty ns w h).1) e
 
-  pub answer_refused : (v : Verdict) → verdict ns ≡ Valid → Answered ns w (Refused v) → AnswerLine (vertices ns) w line
-  answer_refused v valid h = absurd (true≢false (sym (ap passes valid) ∙ (found_refused ns w v h).1))
+  pub answer_refused : (r : Refusal) → verdict ns ≡ Valid → Answered ns w (Err (Refused r)) → AnswerLine (vertices ns) w line
+  answer_refused r valid h = absurd (true≢false (sym (ap passes valid) ∙ (found_refused ns w r h).1))

@@ -8,7 +8,9 @@
 --   Filled                a line stands at the front of a room, and everything behind it is untouched
 --   Written               an 05 line for each of the first n wishes stands at the front of a room, and everything behind them is untouched
 use Rattle.std.specs.Prelude.{◌≡◌, Bool, List, [], ◌∷◌, ◌++◌, ℕ, zero, suc, ◌+◌, ◌*◌, ℤ, pos, length, get_or, take, drop}
-use Rattle.meaning.specs.Numbers.{Cell, Corner, cell}
+use Rattle.meaning.specs.Numbers.{cell}
+use Rattle.meaning.specs.declared.Cell.{Cell}
+use Rattle.meaning.specs.declared.Corner.{Corner}
 use Rattle.meaning.specs.Lists.{permitted}
 use Rattle.meaning.specs.Outcomes.{empty_map}
 use Rattle.meaning.specs.Nearest.{Nearest}

@@ -3,16 +3,14 @@
 
 ghost use Rattle.std.specs.Prelude.{◌≡◌, ◌+◌, ◌*◌, ◌/◌, ◌<◌, ◌≤◌, length};
 ghost use Rattle.std.proofs.Math.Seq.{paste};
-ghost use Rattle.meaning.specs.Numbers.{cell};
 ghost use Rattle.meaning.specs.Lists.{vertices};
-ghost use Rattle.meaning.specs.Verdicts.{verdict};
 ghost use Rattle.frames.specs.Frames.{four_digits};
 ghost use Rattle.answers.specs.Answers.{refusal_bytes, answer_bytes, refusal_line, cell_line, empty_line};
 ghost use Rattle.answers.specs.Answers.{wish_at, AnswerLine, Filled, Written};
 
-use frames::{DIGITS, LINE_END, NUMBERS, ZERO};
-use meaning::Verdict;
-use nearest::Found;
+use frames::{DIGITS, LINE_END, ZERO};
+use lists::TravelMap;
+use meaning::{Cell, NUMBERS};
 
 // The second digits of the tags 05, an answer, and 06, a refusal.
 const ANSWER_TAG: u8 = b'5';
@@ -58,12 +56,12 @@ fn refusal_line(number: usize, place: usize) -> [u8; REFUSAL_LINE]
 }
 
 // The 05 line of a cell.
-fn cell_line(focus: i16, first: i16, second: i16) -> [u8; ANSWER_LINE]
-    ensures { result ≡ cell_line (cell focus first second) }
+fn cell_line(cell: Cell) -> [u8; ANSWER_LINE]
+    ensures { result ≡ cell_line cell }
 {
-    let x = four_digits(words::word(focus) as usize);
-    let y = four_digits(words::word(first) as usize);
-    let z = four_digits(words::word(second) as usize);
+    let x = four_digits(words::word(cell.focus) as usize);
+    let y = four_digits(words::word(cell.first) as usize);
+    let z = four_digits(words::word(cell.second) as usize);
     [
         ZERO, ANSWER_TAG, ZERO, ZERO, x[0], x[1], x[2], x[3], y[0], y[1], y[2], y[3], z[0], z[1],
         z[2], z[3], LINE_END,
@@ -91,31 +89,33 @@ pub fn refuse(number: usize, place: usize, out: &mut [u8]) -> usize
 
 // The 05 line of a wish, three numbers.
 #[tactic(auto, using(codes::proofs::Laws::read_back, crate::proofs::Lines::answer_at))]
-fn answer(list: &[i16], wish: &[i16]) -> [u8; ANSWER_LINE]
-    requires valid { verdict list.now ≡ Verdict.Valid }
-    requires three { length wish.now ≡ 3 }
-    ensures { AnswerLine (vertices list.now) (wish_at wish.now 0) result }
+fn answer(map: TravelMap, wish: &[i16]) -> [u8; ANSWER_LINE]
+    requires { length wish.now ≡ 3 }
+    ensures { AnswerLine (vertices map.entry.list.now) (wish_at wish.now 0) result }
 {
-    match nearest::nearest_of_map(list, wish[0], wish[1], wish[2]) {
-        Found::At(focus, first, second, _) => cell_line(focus, first, second),
-        Found::Empty => empty_line(),
-        Found::Refused(_) => empty_line(),
+    let wish = Cell {
+        focus: wish[0],
+        first: wish[1],
+        second: wish[2],
+    };
+    match nearest::nearest_of_map(map, wish) {
+        Some(reached) => cell_line(reached.at),
+        None => empty_line(),
     }
 }
 
 // Writes an 05 line for each wish, in order; answers how many bytes they have.
-pub fn answer_all(list: &[i16], wishes: &[i16], out: &mut [u8]) -> usize
-    requires valid { verdict list.now ≡ Verdict.Valid }
-    requires wishes_in_bounds { answer_bytes * (length wishes.now / 3) ≤ length out.old }
+pub fn answer_all(map: TravelMap, wishes: &[i16], out: &mut [u8]) -> usize
+    requires { answer_bytes * (length wishes.now / 3) ≤ length out.old }
     ensures value { result ≡ answer_bytes * (length wishes.now / 3) }
-    ensures written { Written (vertices list.now)
+    ensures written { Written (vertices map.entry.list.now)
         wishes.now (length wishes.now / 3)
         out.old out.new }
 {
     for (i, wish) in wishes.chunks_exact(NUMBERS).enumerate() {
         // By its range: what is written through `chunks_exact_mut` is not known to a proof.
         let at = ANSWER_LINE * i;
-        out[at..at + ANSWER_LINE].copy_from_slice(&answer(list, wish));
+        out[at..at + ANSWER_LINE].copy_from_slice(&answer(map, wish));
     }
     ANSWER_LINE * (wishes.len() / NUMBERS)
 }

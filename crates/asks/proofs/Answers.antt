@@ -16,26 +16,27 @@ use lib.IntN.{ℤ}
 use lib.ListN.{length, take, drop}
 use mir.Syntax.{w16}
 use mir.Val.{SFits}
-use Rattle.meaning.specs.Numbers.{Cell, Corner, is_cell}
+use Rattle.meaning.specs.Numbers.{is_cell}
+use Rattle.meaning.specs.declared.Cell.{Cell}
+use Rattle.meaning.specs.declared.Corner.{Corner}
 use Rattle.meaning.specs.Lists.{vertices, numbers, permitted, mask, Valid as Map}
-use Rattle.meaning.specs.Verdicts.{verdict, passes}
-use Rattle.meaning.specs.declared.Verdict.{Verdict}
+use Rattle.meaning.specs.Verdicts.{Verdict, verdict, passes}
+use Rattle.std.specs.Prelude.{Result, Ok, Err, is_err}
+use Rattle.meaning.specs.declared.Refusal.{Refusal}
 use Rattle.meaning.specs.Counting.{count, keep}
 use Rattle.meaning.specs.Kinds.{kind}
-use Rattle.meaning.specs.Outcomes.{Outcome, outcome, Nothing, nothing, done, refused, verdict_values, kept, checked}
+use Rattle.meaning.specs.Outcomes.{Outcome, outcome, Nothing, nothing, done, kept, checked}
 use Rattle.meaning.proofs.Integers.{not_yes}
 use Rattle.meaning.proofs.Maps.{valid_within}
 use Rattle.meaning.proofs.Checked.{passes_valid}
-use Rattle.meaning.proofs.Outcomes.{verdict_by, verdict_back, verdict_once, checked_next, checked_refused}
+use Rattle.meaning.proofs.Outcomes.{verdict_by, verdict_back, checked_next}
 use Rattle.kinds.proofs.Masks.{ones_mask}
 use Rattle.codes.specs.Lift.{lifted}
 use Rattle.lists.specs.Check.{Checked}
 use Rattle.lists.proofs.Verdicts.{checked_verdict}
-use Rattle.asks.specs.declared.CellAnswer.{CellAnswer}
-use Rattle.asks.specs.declared.CellAnswer.TheVariants.{Yes, No, Refused}
-use Rattle.asks.specs.declared.CornerAnswer.{CornerAnswer}
+use Rattle.asks.specs.declared.Report.{Report}
 use Rattle.asks.specs.declared.Ends.{Ends}
-use Rattle.asks.specs.Asks.{cell_says, cell_outcome, CellPromise, Report, report, corner_says, report_on, CornerPromise}
+use Rattle.asks.specs.Asks.{cell_says, cell_outcome, CellPromise, report, corner_says, report_on, CornerPromise}
 use Rattle.asks.specs.Asks.{on_plane, plane_numbers, before_plane, through_plane, plane_ends, EndsPromise, Pointer, number_bytes, behind, plane_says, PlanePromise}
 use Rattle.asks.specs.Passes.{under, leading}
 use Rattle.asks.proofs.Planes.{before_through, count_le, vertices_length, plane_start, plane_end, plane_part}
@@ -46,27 +47,17 @@ module _ (ns : List ℤ) (c : Cell) where
   abbrev said : Outcome Bool Nothing
   said = outcome (done 0) (permitted (vertices ns) c) nothing
 
-  pub cell_refused : (v : Verdict) → Checked ns v → passes v ≡ false → CellPromise ns c (Refused v)
+  pub cell_refused : (r : Refusal) → Checked ns (Err r) → CellPromise ns c (Err r)
   unfolding CellPromise
-  cell_refused v h p =
-      sym (checked_refused 1 v (kept false nothing) said p) ∙ ap (λ w. checked 1 w (kept false nothing) said) (checked_verdict ns v h)
+  cell_refused r h = ap (λ w. checked 1 w (kept false nothing) said) (checked_verdict ns (Err r) h)
 
-  pub cell_said : (v : Verdict) (b : Bool) → Checked ns v → passes v ≡ true → b ≡ permitted (vertices ns) c → CellPromise ns c (cond b Yes No)
+  pub cell_said : (b : Bool) → Checked ns (Ok tt) → b ≡ permitted (vertices ns) c → CellPromise ns c (Ok b)
   unfolding CellPromise
-  cell_said v b h p f =
-      says b
-      ∙ ap (λ t. outcome (done 0) t nothing) f
-      ∙ sym (checked_next 1 v (kept false nothing) said p)
-      ∙ ap (λ w. checked 1 w (kept false nothing) said) (checked_verdict ns v h)
-    where
-      says : (b : Bool) → cell_says (cond b Yes No) ≡ outcome (done 0) b nothing
-      says true = refl
-      says false = refl
+  cell_said b h f =
+      ap (λ t. outcome (done 0) t nothing) f
+      ∙ ap (λ w. checked 1 w (kept false nothing) said) (checked_verdict ns (Ok tt) h)
 
 -- ---- the corner report
-
-abbrev corner_answer : Verdict → ℕ → ℕ → ℕ → CornerAnswer
-corner_answer v m n k = record { verdict = v; mask = m; how_many = n; kind = k }
 
 module _ (ns : List ℤ) (x : Corner) where
   abbrev S : Cell → Bool
@@ -75,25 +66,15 @@ module _ (ns : List ℤ) (x : Corner) where
   abbrev reported : Outcome Report Nothing
   reported = outcome (done 0) (report_on S x) nothing
 
-  -- the values of a verdict, by whether it passes, beside a report
-  values_by : (v : Verdict) (t : Bool) (o : Report) → passes v ≡ t → outcome (verdict_values v) o nothing ≡ outcome (cond t (done 0) (refused 1 v)) o nothing
-  values_by v t o p = ap (λ b. outcome (cond b (done 0) (refused 1 v)) o nothing) p
-
-  pub corner_refused : (v : Verdict) → Checked ns v → passes v ≡ false → CornerPromise ns x (corner_answer v 0 0 0)
+  pub corner_refused : (r : Refusal) → Checked ns (Err r) → CornerPromise ns x (Err r)
   unfolding CornerPromise
-  corner_refused v h p =
-      values_by v false (report 0 0 0) p
-      ∙ sym (checked_refused 1 v (kept (report 0 0 0) nothing) reported p)
-      ∙ ap (λ w. checked 1 w (kept (report 0 0 0) nothing) reported) (checked_verdict ns v h)
+  corner_refused r h = ap (λ w. checked 1 w (kept (report 0 0 0) nothing) reported) (checked_verdict ns (Err r) h)
 
-  pub corner_said : (v : Verdict) (m n k : ℕ) → Checked ns v → passes v ≡ true → m ≡ mask S x → n ≡ ones m → k ≡ kind m
-      → CornerPromise ns x (corner_answer v m n k)
+  pub corner_said : (m n k : ℕ) → Checked ns (Ok tt) → m ≡ mask S x → n ≡ ones m → k ≡ kind m → CornerPromise ns x (Ok (report m n k))
   unfolding CornerPromise
-  corner_said v m n k h p e f g =
-      values_by v true (report m n k) p
-      ∙ (λ i. outcome (done 0) (report (e i) ((f ∙ ap ones e ∙ ones_mask S x) i) ((g ∙ ap kind e) i)) nothing)
-      ∙ sym (checked_next 1 v (kept (report 0 0 0) nothing) reported p)
-      ∙ ap (λ w. checked 1 w (kept (report 0 0 0) nothing) reported) (checked_verdict ns v h)
+  corner_said m n k h e f g =
+      (λ i. outcome (done 0) (report (e i) ((f ∙ ap ones e ∙ ones_mask S x) i) ((g ∙ ap kind e) i)) nothing)
+      ∙ ap (λ w. checked 1 w (kept (report 0 0 0) nothing) reported) (checked_verdict ns (Ok tt) h)
 
 -- ---- valid lists
 
@@ -109,6 +90,15 @@ module _ (ns : List ℤ) where
       checked_next 1 (verdict ns) (kept false nothing) (said ns c) p ∙ ap (λ t. outcome (done 0) t nothing) never
 
 -- ---- planes
+
+-- a verdict that is an error passes not; one that is none passes
+pub refused_by : (v : Verdict) → is_err v ≡ true → passes v ≡ false
+refused_by (Ok u) e = sym e
+refused_by (Err r) e = refl
+
+pub passed_by : (v : Verdict) → is_err v ≡ false → passes v ≡ true
+passed_by (Ok u) e = refl
+passed_by (Err r) e = sym e
 
 abbrev ends_by : Bool → ℕ → ℕ → Ends
 ends_by t s e = record { start = cond t s 0; end = cond t e 0 }
@@ -166,31 +156,30 @@ module _ (ns : List ℤ) (x : ℤ) where
 
 -- ---- each promise settles its answer
 
--- the answer of the cell query with this operand, verdict and yes or no
-abbrev cell_by : ℕ → Verdict → Bool → CellAnswer
-cell_by zero v b = cond b Yes No
-cell_by (suc n) v b = Refused v
+-- the answer with this operand and verdict, and what it gives
+abbrev answer_by : {A : Type 0} → ℕ → Verdict → A → Result A Refusal
+answer_by zero v a = Ok a
+answer_by (suc n) (Ok u) a = Ok a
+answer_by (suc n) (Err r) a = Err r
 
-abbrev cell_in : Outcome Bool Nothing → CellAnswer
-cell_in o = cell_by o.values.operand (verdict_by o.values.number o.values.place) o.given
+abbrev answer_in : {A : Type 0} → Outcome A Nothing → Result A Refusal
+answer_in o = answer_by o.values.operand (verdict_by o.values.number o.values.place) o.given
 
-cell_back : (r : CellAnswer) → cell_in (cell_says r) ≡ r
-cell_back Yes = refl
-cell_back No = refl
-cell_back (Refused v) = ap Refused (verdict_back v)
+cell_back : (r : Result Bool Refusal) → answer_in (cell_says r) ≡ r
+cell_back (Ok b) = refl
+cell_back (Err r) = ap (λ v. answer_by 1 v false) (verdict_back (Err r))
 
-pub cell_settled : (ns : List ℤ) (c : Cell) (r s : CellAnswer) → CellPromise ns c r → CellPromise ns c s → r ≡ s
+pub cell_settled : (ns : List ℤ) (c : Cell) (r s : Result Bool Refusal) → CellPromise ns c r → CellPromise ns c s → r ≡ s
 unfolding CellPromise
-cell_settled ns c r s p q = sym (cell_back r) ∙ ap cell_in (p ∙ sym q) ∙ cell_back s
+cell_settled ns c r s p q = sym (cell_back r) ∙ ap answer_in (p ∙ sym q) ∙ cell_back s
 
-corner_once : (r s : CornerAnswer) → corner_says r ≡ corner_says s → r ≡ s
-corner_once r s e =
-    let v = verdict_once r.verdict s.verdict (ap (λ o. o.values) e) in
-    λ i. corner_answer (v i) (e i).given.mask (e i).given.how_many (e i).given.kind
+corner_back : (r : Result Report Refusal) → answer_in (corner_says r) ≡ r
+corner_back (Ok o) = refl
+corner_back (Err r) = ap (λ v. answer_by 1 v (report 0 0 0)) (verdict_back (Err r))
 
-pub corner_settled : (ns : List ℤ) (v : Corner) (r s : CornerAnswer) → CornerPromise ns v r → CornerPromise ns v s → r ≡ s
+pub corner_settled : (ns : List ℤ) (v : Corner) (r s : Result Report Refusal) → CornerPromise ns v r → CornerPromise ns v s → r ≡ s
 unfolding CornerPromise
-corner_settled ns v r s p q = corner_once r s (p ∙ sym q)
+corner_settled ns v r s p q = sym (corner_back r) ∙ ap answer_in (p ∙ sym q) ∙ corner_back s
 
 pub ends_settled : (ns : List ℤ) (x : ℤ) (r s : Ends) → EndsPromise ns x r → EndsPromise ns x s → r ≡ s
 ends_settled ns x r s p q = p.answer ∙ sym q.answer

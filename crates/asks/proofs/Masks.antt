@@ -10,13 +10,17 @@ use native.Mathlib.Omega.{arith}
 use lib.Bits.{bit_and, bit_xor, and_step, xor_step, differ}
 use lib.IntN.{ℤ, pred_ℤ}
 use lib.Signed.{le_z}
+use mir.Syntax.{w16}
+use mir.Val.{SFits}
+use mir.ValLaws.{to_z-of_z}
 use Rattle.std.specs.List.{fold}
-use Rattle.meaning.specs.Numbers.{Cell, Corner}
+use Rattle.meaning.specs.declared.Cell.{Cell}
+use Rattle.meaning.specs.declared.Corner.{Corner}
 use Rattle.meaning.specs.Lists.{at_or_below, permitted, surrounding, weigh, mask}
 use Rattle.meaning.proofs.Parity.{◌⊕◌, ⊕_false, ⊕_assoc}
 use Rattle.meaning.proofs.Integers.{lt_z_le_z}
 use Rattle.asks.specs.Passes.{side, over}
-use Rattle.asks.proofs.Passes.{le_z_pred, vertex_of, permitted_cons}
+use Rattle.asks.proofs.Passes.{le_z_pred, handed, vertex_of, permitted_cons}
 
 abbrev bit : Bool → ℕ
 bit b = cond b 1 0
@@ -93,14 +97,19 @@ module _ (w v : Corner) where
   on_second : weigh (map (λ c. le_z w.second c.second) (surrounding v)) ≡ side w.second v.second 170
   on_second = on_axis w.second v.second (false ∷ true ∷ false ∷ true ∷ false ∷ true ∷ false ∷ true ∷ [])
 
-  -- by the numbers of w, as a machine hands them on
-  pub over_sides : {x y z : ℤ} → x ≡ w.focus → y ≡ w.first → z ≡ w.second
-      → bit_and (side x v.focus 240) (bit_and (side y v.first 204) (side z v.second 170)) ≡ over w v
-  over_sides e f g =
-      ap₂ bit_and (ap (λ u. side u v.focus 240) e ∙ sym on_focus)
-      (ap₂ bit_and (ap (λ u. side u v.first 204) f ∙ sym on_first) (ap (λ u. side u v.second 170) g ∙ sym on_second)
+  -- by the numbers of both, as a machine hands them on
+  pub over_sides : SFits w16 w.focus → SFits w16 w.first → SFits w16 w.second → SFits w16 v.focus → SFits w16 v.first → SFits w16 v.second
+      → bit_and (side (handed w.focus) (handed v.focus) 240)
+      (bit_and (side (handed w.first) (handed v.first) 204) (side (handed w.second) (handed v.second) 170))
+      ≡ over w v
+  over_sides f₁ f₂ f₃ g₁ g₂ g₃ =
+      ap₂ bit_and (back w.focus v.focus 240 f₁ g₁ ∙ sym on_focus)
+      (ap₂ bit_and (back w.first v.first 204 f₂ g₂ ∙ sym on_first) (back w.second v.second 170 f₃ g₃ ∙ sym on_second)
       ∙ and_weigh (λ c. le_z w.first c.first) (λ c. le_z w.second c.second) (surrounding v))
       ∙ and_weigh (λ c. le_z w.focus c.focus) (λ c. le_z w.first c.first && le_z w.second c.second) (surrounding v)
+    where
+      back : (u x : ℤ) (high : ℕ) → SFits w16 u → SFits w16 x → side (handed u) (handed x) high ≡ side u x high
+      back u x high f g = ap₂ (λ y z. side y z high) (to_z-of_z w16 u f) (to_z-of_z w16 x g)
 
 -- a mask turned by the cells that each vertex is at or below
 abbrev pub masked_by : Corner → ℕ → List ℤ → ℕ

@@ -1,17 +1,17 @@
 -- Laws of a pass over the numbers of a list, one vertex after the other.
---   le_z_pred, level, level_low       a number against the cell on the high side and on the low side of a corner, by their crossings
---   at_or_below_passed               the three tests of a vertex, by crossings: where the first two pass, the third decides
+--   le_z_pred, level                 a number against the cell on the low side of a corner; against one that is counted from -32768
+--   handed                           a number as a machine hands it on
+--   at_or_below_passed               where the first two tests of a vertex pass, the third decides
 --   vertex_of, vertices_by_three     the vertex of three numbers; the numbers of a list three by three are its vertices
---   side_beyond                      the cells beyond a number on one axis, by its crossing
---   crossing, crossing_back          the crossing of a number that was handed on; lowered, it is the number
+--   crossing                         the crossing of a number that was handed on
 --   permitted_cons                   one vertex more
 --   turned_by, turned_all            turned by each vertex at or below a cell: whether their number is odd
 use mathlib.Core.Path.{◌≡◌, refl, sym, ◌∙◌, ap, ap₂}
-use mathlib.Core.Bool.{Bool, true, false, not, ◌&&◌, cond, beq}
+use mathlib.Core.Bool.{Bool, true, false, not, ◌&&◌, beq}
 use mathlib.Core.List.{List, [], ◌∷◌, map}
-use Prim.Native.Nat.{ℕ, zero, suc, ◌+◌, ◌-◌, ◌/◌, ◌<◌}
+use Prim.Native.Nat.{ℕ, zero, suc, ◌+◌, ◌-◌, ◌/◌}
 use native.Mathlib.Omega.{arith}
-use borrow.Author.Tests.{ltb-true, ltb-false, leb-true, leb-false, le-leb, lt-leb, le-ltb}
+use borrow.Author.Tests.{ltb-true, ltb-false, le-leb, lt-leb, le-ltb}
 use lib.Dec.{leb, ltb}
 use lib.IntN.{ℤ, pos, negsuc, pred_ℤ}
 use lib.Signed.{le_z, lt_z}
@@ -21,14 +21,15 @@ use mir.Val.{SFits, to_z, of_z}
 use mir.ValLaws.{to_z-of_z}
 use Rattle.std.specs.Simd.{first_chunks}
 use Rattle.std.specs.List.{fold}
-use Rattle.meaning.specs.Numbers.{Cell, Corner, corner}
+use Rattle.meaning.specs.Numbers.{corner}
+use Rattle.meaning.specs.declared.Cell.{Cell}
+use Rattle.meaning.specs.declared.Corner.{Corner}
 use Rattle.meaning.specs.Lists.{vertices, at_or_below, permitted}
 use Rattle.meaning.proofs.Parity.{◌⊕◌, ⊕_false, ⊕_assoc, odd_count}
 use Rattle.codes.specs.Lift.{lifted, lowered}
-use Rattle.codes.proofs.Laws.{lifted_lt, lifted_lowered, lowered_lifted, lowered_fits}
 use Rattle.codes.proofs.Shift.{down_below, down_not}
 use Rattle.codes.proofs.Tests.{leb_same}
-use Rattle.asks.specs.Passes.{vertex_at, lowered_cell, Beyond, side}
+use Rattle.asks.specs.Passes.{vertex_at}
 
 pub le_z_pred : (y z : ℤ) → le_z y (pred_ℤ z) ≡ lt_z y z
 le_z_pred (pos m) (pos zero) = sym (le-ltb m 0 (omega arith))
@@ -52,22 +53,21 @@ level y n = go y (ltb n 32768) refl
         ap (le_z (pos m)) (down_not n 32768 h) ∙ leb_same m (n - 32768) (m + 32768) n (λ k. omega arith) (λ k. omega arith)
     go (negsuc m) false e = ap (le_z (negsuc m)) (down_not n 32768 (ltb-false n 32768 e)) ∙ sym (le-leb (32767 - m) n (omega (arith, ltb-false n 32768 e)))
 
-pub level_low : (y : ℤ) (n : ℕ) → SFits w16 y → n < 65536 → le_z y (pred_ℤ (lowered n)) ≡ ltb (lifted y) n
-level_low y n f h = le_z_pred y (lowered n) ∙ lifted_lt y (lowered n) f (lowered_fits n h) ∙ ap (ltb (lifted y)) (lifted_lowered n)
+-- a number as a machine hands it on
+abbrev pub handed : ℤ → ℤ
+handed z = to_z w16 (of_z w16 z)
 
--- the three tests of a vertex, by the crossings u of its numbers
-at_or_below_lem : (w : Corner) (x y z u₁ u₂ u₃ : ℕ) → u₁ ≡ lifted w.focus → u₂ ≡ lifted w.first → u₃ ≡ lifted w.second →
-    at_or_below (lowered_cell x y z) w ≡ (leb u₁ x && (leb u₂ y && leb u₃ z))
-at_or_below_lem w x y z u₁ u₂ u₃ e₁ e₂ e₃ = ap₂ ◌&&◌ (test w.focus x u₁ e₁) (ap₂ ◌&&◌ (test w.first y u₂ e₂) (test w.second z u₃ e₃))
+-- of numbers as a machine hands them on: where the first two tests of a vertex pass, the third decides
+pub at_or_below_passed : (c : Cell) (w : Corner) → SFits w16 w.focus → SFits w16 w.first → SFits w16 w.second
+    → SFits w16 c.focus → SFits w16 c.first → SFits w16 c.second
+    → le_z (handed w.focus) (handed c.focus) ≡ true → le_z (handed w.first) (handed c.first) ≡ true
+    → le_z (handed w.second) (handed c.second) ≡ at_or_below c w
+at_or_below_passed c w f₁ f₂ f₃ g₁ g₂ g₃ h k =
+    ap₂ (λ s t. s && (t && le_z (handed w.second) (handed c.second))) (sym h) (sym k)
+    ∙ ap₂ ◌&&◌ (test w.focus c.focus f₁ g₁) (ap₂ ◌&&◌ (test w.first c.first f₂ g₂) (test w.second c.second f₃ g₃))
   where
-    test : (t : ℤ) (n u : ℕ) → u ≡ lifted t → le_z t (lowered n) ≡ leb u n
-    test t n u e = level t n ∙ ap (λ m. leb m n) (sym e)
-
--- where the first two pass, the third decides
-pub at_or_below_passed : (w : Corner) (x y z : ℕ) {u₁ u₂ u₃ : ℕ} → u₁ ≡ lifted w.focus → u₂ ≡ lifted w.first → u₃ ≡ lifted w.second
-    → leb u₁ x ≡ true → leb u₂ y ≡ true → leb u₃ z ≡ at_or_below (lowered_cell x y z) w
-at_or_below_passed w x y z {u₁} {u₂} {u₃} e₁ e₂ e₃ h k =
-    sym (at_or_below_lem w x y z u₁ u₂ u₃ e₁ e₂ e₃ ∙ ap₂ (λ s t. s && (t && leb u₃ z)) h k)
+    test : (y z : ℤ) → SFits w16 y → SFits w16 z → le_z (handed y) (handed z) ≡ le_z y z
+    test y z f g = ap₂ le_z (to_z-of_z w16 y f) (to_z-of_z w16 z g)
 
 -- the vertex of three numbers
 abbrev pub vertex_of : List ℤ → Corner
@@ -90,17 +90,6 @@ vertices_by_three ns = go ns (length ns / 3) refl
 pub permitted_cons : (v : Corner) (l : List Corner) (c : Cell) → permitted (v ∷ l) c ≡ (at_or_below c v ⊕ permitted l c)
 permitted_cons v l c = odd_count (at_or_below c) (v ∷ l) ∙ ap (at_or_below c v ⊕◌) (sym (odd_count (at_or_below c) l))
 
--- the cells beyond a number on one axis, by its crossing u
-pub side_beyond : (z : ℤ) (x high u r : ℕ) → SFits w16 z → x < 65536 → u ≡ lifted z → Beyond u x high r → r ≡ side z (lowered x) high
-side_beyond z x high u r f h e b =
-    go (ltb u x) refl (leb u x) refl
-    ∙ sym (ap₂ (λ s t. cond s 255 (cond t high 0)) (level_low z x f h ∙ ap (λ n. ltb n x) (sym e)) (level z x ∙ ap (λ n. leb n x) (sym e)))
-  where
-    go : (s : Bool) → ltb u x ≡ s → (t : Bool) → leb u x ≡ t → r ≡ cond s 255 (cond t high 0)
-    go true k t l = b.lower (ltb-true u x k)
-    go false k true l = b.level (omega (arith, ltb-false u x k, leb-true u x l))
-    go false k false l = b.higher (leb-false u x l)
-
 -- exclusive or, as a machine has it
 xor_⊕ : (a b : Bool) → not (beq a b) ≡ (a ⊕ b)
 xor_⊕ true true = refl
@@ -122,9 +111,6 @@ turned_all c (n ∷ ls) odd =
     ∙ ⊕_assoc odd b rest
     ∙ ap (odd ⊕◌) (sym (permitted_cons (vertex_of n) (map vertex_of ls) c))
 
--- a number and its crossing, as a machine hands it on
-pub crossing : (z : ℤ) (u : ℕ) → SFits w16 z → u ≡ lifted (to_z w16 (of_z w16 z)) → u ≡ lifted z
+-- the crossing of a number that was handed on
+pub crossing : (z : ℤ) (u : ℕ) → SFits w16 z → u ≡ lifted (handed z) → u ≡ lifted z
 crossing z u f e = e ∙ ap lifted (to_z-of_z w16 z f)
-
-pub crossing_back : (z : ℤ) (u : ℕ) → SFits w16 z → u ≡ lifted (to_z w16 (of_z w16 z)) → lowered u ≡ z
-crossing_back z u f e = ap lowered (crossing z u f e) ∙ lowered_lifted z f

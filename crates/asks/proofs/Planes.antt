@@ -19,7 +19,7 @@ use lib.IntN.{ℤ, pos}
 use lib.Signed.{le_z, lt_z}
 use lib.ListN.{length, get_or, take, drop, length-drop}
 use Rattle.std.specs.List.{prefix_len}
-use Rattle.meaning.specs.Numbers.{Corner}
+use Rattle.meaning.specs.declared.Corner.{Corner}
 use Rattle.meaning.specs.Counting.{count, keep, All}
 use Rattle.meaning.specs.Lists.{vertices, numbers, below, Rising, Valid}
 use Rattle.meaning.proofs.Integers.{le_z_refl, le_z_trans, lt_z_le_z, lt_z_le, lt_z_not, and_left, not_yes}

@@ -10,53 +10,47 @@
 --   Pointer, number_bytes, behind  where a slice lies, as its reference has it; how many bytes a number takes; so many numbers behind, in the same object
 --   Part, plane_says               what a slice holds and where it lies; the part that is handed back
 --   plane_outcome, PlanePromise    what the plane query comes to: those numbers, at their place in the caller's own list, an empty part too; and its promise
-use Rattle.std.specs.Prelude.{◌≡◌, Bool, true, false, cond, List, [], ℕ, ◌+◌, ◌*◌, ℤ}
+use Rattle.std.specs.Prelude.{◌≡◌, Bool, false, cond, List, [], ℕ, ◌+◌, ◌*◌, ℤ, Result, Ok, Err}
 use Rattle.std.specs.Int.Signed.{le_z, lt_z}
-use Rattle.meaning.specs.Numbers.{Cell, Corner}
+use Rattle.meaning.specs.declared.Cell.{Cell}
+use Rattle.meaning.specs.declared.Corner.{Corner}
 use Rattle.meaning.specs.Counting.{count, keep}
 use Rattle.meaning.specs.Lists.{vertices, numbers, permitted, how_many, mask, same}
 use Rattle.meaning.specs.Verdicts.{verdict, passes}
 use Rattle.meaning.specs.Kinds.{kind}
-use Rattle.meaning.specs.Outcomes.{Values, Outcome, outcome, Nothing, nothing, done, refused, verdict_values, kept, checked}
-use Rattle.asks.specs.declared.CellAnswer.{CellAnswer}
-use Rattle.asks.specs.declared.CellAnswer.TheVariants.{Yes, No, Refused}
-use Rattle.asks.specs.declared.CornerAnswer.{CornerAnswer}
+use Rattle.meaning.specs.Outcomes.{Values, Outcome, outcome, Nothing, nothing, done, refused, kept, checked}
+use Rattle.meaning.specs.declared.Refusal.{Refusal}
+use Rattle.asks.specs.declared.Report.{Report}
 use Rattle.asks.specs.declared.Ends.{Ends}
 
 -- ---- is this cell permitted
 
 -- the one list is operand 1
-abbrev pub cell_values : CellAnswer → Values
-cell_values Yes = done 0
-cell_values No = done 0
-cell_values (Refused v) = refused 1 v
+abbrev pub cell_values : Result Bool Refusal → Values
+cell_values (Ok b) = done 0
+cell_values (Err r) = refused 1 (Err r)
 
-abbrev pub cell_yes : CellAnswer → Bool
-cell_yes Yes = true
-cell_yes No = false
-cell_yes (Refused v) = false
+abbrev pub cell_yes : Result Bool Refusal → Bool
+cell_yes (Ok b) = b
+cell_yes (Err r) = false
 
-abbrev pub cell_says : CellAnswer → Outcome Bool Nothing
+abbrev pub cell_says : Result Bool Refusal → Outcome Bool Nothing
 cell_says r = outcome (cell_values r) (cell_yes r) nothing
 
 abbrev pub cell_outcome : List ℤ → Cell → Outcome Bool Nothing
 cell_outcome ns c = checked 1 (verdict ns) (kept false nothing) (outcome (done 0) (permitted (vertices ns) c) nothing)
 
-unfoldable pub CellPromise : List ℤ → Cell → CellAnswer → Type 0
+unfoldable pub CellPromise : List ℤ → Cell → Result Bool Refusal → Type 0
 CellPromise ns c r = cell_says r ≡ cell_outcome ns c
 
 -- ---- the corner report
 
-pub record Report : Type 0 where
-  pub mask : ℕ
-  pub how_many : ℕ
-  pub kind : ℕ
-
 abbrev pub report : ℕ → ℕ → ℕ → Report
 report mask how_many kind = record { mask = mask; how_many = how_many; kind = kind }
 
-abbrev pub corner_says : CornerAnswer → Outcome Report Nothing
-corner_says r = outcome (verdict_values r.verdict) (report r.mask r.how_many r.kind) nothing
+abbrev pub corner_says : Result Report Refusal → Outcome Report Nothing
+corner_says (Ok o) = outcome (done 0) o nothing
+corner_says (Err r) = outcome (refused 1 (Err r)) (report 0 0 0) nothing
 
 -- of the cells of a set round a corner
 abbrev pub report_on : (Cell → Bool) → Corner → Report
@@ -65,7 +59,7 @@ report_on S v = report (mask S v) (how_many S v) (kind (mask S v))
 abbrev pub corner_outcome : List ℤ → Corner → Outcome Report Nothing
 corner_outcome ns v = checked 1 (verdict ns) (kept (report 0 0 0) nothing) (outcome (done 0) (report_on (permitted (vertices ns)) v) nothing)
 
-unfoldable pub CornerPromise : List ℤ → Corner → CornerAnswer → Type 0
+unfoldable pub CornerPromise : List ℤ → Corner → Result Report Refusal → Type 0
 CornerPromise ns v r = corner_says r ≡ corner_outcome ns v
 
 -- ---- planes

@@ -2,11 +2,9 @@
 // eight cells round a corner; where the vertices below a focus number end. Inner. It relies on `codes`, which counts numbers from -32768.
 ghost use Rattle.std.specs.Prelude.{◌≡◌, ◌+◌, ◌*◌, ◌≤◌, map, length, drop};
 ghost use Rattle.meaning.specs.Lists.{vertices, at_or_below, permitted, mask};
-ghost use Rattle.codes.specs.Lift.{lowered};
-ghost use Rattle.asks.specs.Passes.{vertex_at, lowered_cell, lowered_corner, Beyond, side, over, under, leading};
+ghost use Rattle.asks.specs.Passes.{vertex_at, side, over, under, leading};
 
-// The numbers of a vertex.
-const NUMBERS: usize = 3;
+use meaning::{Cell, Corner, NUMBERS};
 
 // Where a vertex lies below the corner on an axis, all eight cells may lie above it.
 const ALL: u8 = u8::MAX;
@@ -18,9 +16,6 @@ const HIGH_FIRST: u8 = 204;
 
 const HIGH_SECOND: u8 = 170;
 
-// Room for the code on the low side of the lowest number, -32768: 1 is taken off only where it fits.
-const ROOM: u32 = 1;
-
 // The vertices of a list, three numbers each.
 fn vertices_of(list: &[i16]) -> &[[i16; NUMBERS]]
     ensures { map (λ numbers. vertex_at numbers 0) result.now ≡ vertices list.now }
@@ -30,65 +25,51 @@ fn vertices_of(list: &[i16]) -> &[[i16; NUMBERS]]
 }
 
 // Whether the vertex stands at or below the cell on all three axes.
-fn at_or_below(vertex: &[i16; NUMBERS], focus: u16, first: u16, second: u16) -> bool
-    ensures { result ≡ at_or_below (lowered_cell focus first second) (vertex_at vertex.now 0) }
+fn at_or_below(vertex: &[i16; NUMBERS], cell: Cell) -> bool
+    ensures { result ≡ at_or_below cell (vertex_at vertex.now 0) }
 {
-    codes::lift(vertex[0]) <= focus
-        && codes::lift(vertex[1]) <= first
-        && codes::lift(vertex[2]) <= second
+    vertex[0] <= cell.focus && vertex[1] <= cell.first && vertex[2] <= cell.second
 }
 
 // Whether an odd number of vertices stand at or below the cell: whether it is permitted.
-pub fn parity(list: &[i16], focus: u16, first: u16, second: u16) -> bool
-    ensures { result ≡ permitted (vertices list.now) (lowered_cell focus first second) }
+pub fn parity(list: &[i16], cell: Cell) -> bool
+    ensures { result ≡ permitted (vertices list.now) cell }
 {
-    vertices_of(list).iter().fold(
-        false,
-        |odd, vertex| odd ^ at_or_below(vertex, focus, first, second),
-    )
+    vertices_of(list)
+        .iter()
+        .fold(false, |odd, vertex| odd ^ at_or_below(vertex, cell))
 }
 
-// Of the eight cells round a corner with number x on an axis, those at or above number u, where `high` are those on the high side.
-fn at_or_above(u: u16, x: u16, high: u8) -> u8
-    ensures { Beyond u x high result }
+// Of the eight cells round a corner with number x on an axis, those at or above the number, where `high` are those on the high side.
+fn beyond(number: i16, x: i16, high: u8) -> u8
+    ensures { result ≡ side number x high }
 {
-    let level = x as u32 + ROOM;
-    let low = level - 1;
-    let number = u as u32 + ROOM;
-    if number <= low {
+    if number < x {
         return ALL;
     }
-    if number <= level {
+    if number == x {
         return high;
     }
     0
 }
 
-// The same for a number of the list.
-fn beyond(number: i16, x: u16, high: u8) -> u8
-    ensures { result ≡ side number (lowered x) high }
-{
-    at_or_above(codes::lift(number), x, high)
-}
-
 // Of the eight cells round the corner, those that the vertex is at or below.
-fn cells_over(vertex: &[i16; NUMBERS], focus: u16, first: u16, second: u16) -> u8
-    ensures { result ≡ over (vertex_at vertex.now 0) (lowered_corner focus first second) }
+fn cells_over(vertex: &[i16; NUMBERS], corner: Corner) -> u8
+    ensures { result ≡ over (vertex_at vertex.now 0) corner }
 {
-    let a = beyond(vertex[0], focus, HIGH_FOCUS);
-    let b = beyond(vertex[1], first, HIGH_FIRST);
-    let c = beyond(vertex[2], second, HIGH_SECOND);
+    let a = beyond(vertex[0], corner.focus, HIGH_FOCUS);
+    let b = beyond(vertex[1], corner.first, HIGH_FIRST);
+    let c = beyond(vertex[2], corner.second, HIGH_SECOND);
     a & (b & c)
 }
 
 // The mask of the permitted cells round the corner.
-pub fn mask_round(list: &[i16], focus: u16, first: u16, second: u16) -> u8
-    ensures { result ≡ mask (permitted (vertices list.now)) (lowered_corner focus first second) }
+pub fn mask_round(list: &[i16], corner: Corner) -> u8
+    ensures { result ≡ mask (permitted (vertices list.now)) corner }
 {
-    vertices_of(list).iter().fold(
-        0,
-        |mask, vertex| mask ^ cells_over(vertex, focus, first, second),
-    )
+    vertices_of(list)
+        .iter()
+        .fold(0, |mask, vertex| mask ^ cells_over(vertex, corner))
 }
 
 // From a place on, the first vertex whose focus number, counted from -32768, is not below the bound: its place, or where the vertices end.

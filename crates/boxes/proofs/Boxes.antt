@@ -17,7 +17,8 @@ use lib.Dec.{leb, eqb}
 use lib.IntN.{ℤ}
 use lib.ListN.{length}
 use lib.Signed.{le_z, lt_z}
-use Rattle.meaning.specs.Numbers.{Cell, corner, lowest, last_code, last_number, is_code}
+use Rattle.meaning.specs.Numbers.{corner, lowest, last_code, last_number, is_code}
+use Rattle.meaning.specs.declared.Cell.{Cell}
 use Rattle.meaning.specs.Lists.{numbers, at_or_below, permitted, below, Rising, most_vertices, Valid}
 use Rattle.meaning.specs.OneList.{one_list, WithinCodes}
 use Rattle.meaning.specs.Operations.{between, box_cells}
@@ -26,20 +27,20 @@ use Rattle.meaning.proofs.Parity.{◌⊕◌, ⊕_false, ⊕_assoc, ⊕_and, and_
 use Rattle.meaning.proofs.Integers.{and_left, and_right, and_both, le_z_refl, le_z_trans, lt_z_not, lt_z_le, lt_z_le_z, lt_z_trans, under_number}
 use Rattle.meaning.proofs.Outcomes.{placed_fits, placed_short}
 use Rattle.meaning.proofs.Maps.{is_one_list, one_valid}
-use Rattle.boxes.specs.Box.{low_on, high_on, good_end, good_ends, box_set, eight_corners, box_vertices, box_values, box_says, box_outcome, BoxMade}
-use Rattle.boxes.specs.declared.Boxed.{Boxed}
-use Rattle.boxes.specs.declared.Boxed.TheVariants.{Done, BadEnds, NoRoom}
+use Rattle.boxes.specs.Box.{low_on, high_on, good_end, good_ends, box_set, eight_corners, box_vertices, Boxed, box_values, box_says, box_outcome, BoxMade}
+use Rattle.std.specs.Prelude.{Ok, Err}
+use Rattle.boxes.specs.declared.BoxError.TheVariants.{BadEnds, NoRoom}
 
 -- ---- the promise
 
 -- the answer with these values: the number tells
 abbrev box_by : Values → Boxed
-box_by v = cond (eqb v.number 0) Done (cond (eqb v.number 9) BadEnds NoRoom)
+box_by v = cond (eqb v.number 0) (Ok tt) (Err (cond (eqb v.number 9) BadEnds NoRoom))
 
 values_back : (r : Boxed) → box_by (box_values r) ≡ r
-values_back Done = refl
-values_back BadEnds = refl
-values_back NoRoom = refl
+values_back (Ok tt) = refl
+values_back (Err BadEnds) = refl
+values_back (Err NoRoom) = refl
 
 pub values_once : (r s : Boxed) → box_values r ≡ box_values s → r ≡ s
 values_once r s e = sym (values_back r) ∙ ap box_by e ∙ values_back s
@@ -56,20 +57,20 @@ module _ (ends : List (List ℤ)) (before : List ℤ) where
   unfolding most_vertices
   room_for t e = ap (◌&& true) e ∙ and-true t
 
-  pub made_bad : good_ends ends ≡ false → BoxMade ends before BadEnds before
+  pub made_bad : good_ends ends ≡ false → BoxMade ends before (Err BadEnds) before
   unfolding BoxMade
   made_bad g = sym (by_ends false g)
 
   module _ (g : good_ends ends ≡ true) where
-    pub made_narrow : length before < 24 → BoxMade ends before NoRoom before
+    pub made_narrow : length before < 24 → BoxMade ends before (Err NoRoom) before
     unfolding BoxMade
     made_narrow h =
         sym (by_ends true g ∙ placed_short per_vertex numbers (box_vertices ends) before (room_for false (lt-leb 24 (length before) h)))
 
-    pub made_done : {after : List ℤ} → 24 ≤ length before → after ≡ front (numbers (box_vertices ends)) before → BoxMade ends before Done after
+    pub made_done : {after : List ℤ} → 24 ≤ length before → after ≡ front (numbers (box_vertices ends)) before → BoxMade ends before (Ok tt) after
     unfolding BoxMade
     made_done h e =
-        ap (box_says Done) e ∙
+        ap (box_says (Ok tt)) e ∙
         sym (by_ends true g ∙ placed_fits per_vertex numbers (box_vertices ends) before (room_for true (le-leb 24 (length before) h)))
 
   pub box_settled : (r s : Boxed) (after last : List ℤ) → BoxMade ends before r after → BoxMade ends before s last → (r ≡ s) × (after ≡ last)

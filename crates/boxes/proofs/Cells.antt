@@ -14,14 +14,14 @@ use Rattle.meaning.specs.Made.{MapOf}
 use Rattle.meaning.specs.Outcomes.{per_vertex}
 use Rattle.meaning.proofs.Made.{length_numbers, Stands, placed_stands, stands_behind, front_map, front_count}
 use Rattle.boxes.specs.Box.{good_ends, box_set, box_vertices, box_values, BoxMade}
-use Rattle.boxes.specs.declared.Boxed.TheVariants.{Done}
+use Rattle.std.specs.Prelude.{Ok}
 use Rattle.boxes.proofs.Boxes.{by_ends, box_within, box_one}
 
 -- how many vertices a box that is done has: eight
 abbrev eight : ℕ
-eight = (box_values Done).count
+eight = (box_values (Ok tt)).count
 
-module _ (ends : List (List ℤ)) (before after : List ℤ) (made : BoxMade ends before Done after) where
+module _ (ends : List (List ℤ)) (before after : List ℤ) (made : BoxMade ends before (Ok tt) after) where
   pub box_stands : (good_ends ends ≡ true) × Stands per_vertex numbers (box_vertices ends) before eight after
   unfolding BoxMade
   box_stands = go (good_ends ends) refl

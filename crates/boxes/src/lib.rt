@@ -7,11 +7,9 @@ ghost use Rattle.boxes.specs.Box.{good_end, good_ends, box_vertices, BoxMade};
 
 use codes::{HIGHEST, LOWEST};
 
-// What making a box answers.
-#[derive(Clone, Copy)]
-pub enum Boxed {
-    // The eight vertices stand at the front of the result.
-    Done,
+// Why no box is made.
+#[derive(Clone, Copy, Debug, PartialEq, Eq)]
+pub enum BoxError {
     // An end is out of range, or a high end is not above its low end.
     BadEnds,
     // Fewer than 24 numbers are lent.
@@ -47,16 +45,16 @@ fn eight_corners(ends: [[i16; 2]; 3]) -> [i16; BOX_NUMBERS]
     ]
 }
 
-// Makes the map of the box with these low and high ends on each axis.
-pub fn make_box(ends: [[i16; 2]; 3], out: &mut [i16]) -> Boxed
+// Makes the map of the box with these low and high ends on each axis: the eight vertices stand at the front of the result.
+pub fn make_box(ends: [[i16; 2]; 3], out: &mut [i16]) -> Result<(), BoxError>
     ensures { BoxMade ends out.old result out.new }
 {
     if !good_ends(ends) {
-        return Boxed::BadEnds;
+        return Err(BoxError::BadEnds);
     }
     if out.len() < BOX_NUMBERS {
-        return Boxed::NoRoom;
+        return Err(BoxError::NoRoom);
     }
     out[..BOX_NUMBERS].copy_from_slice(&eight_corners(ends));
-    Boxed::Done
+    Ok(())
 }

@@ -2,7 +2,7 @@
 -- own numbers taken by themselves.
 --   rank_stop                  no cell is better than the base
 --   part_of                    the cells of a part of a list are those of a list that stands for it
---   turned_none, turned_stop   no high part; none that is better
+--   turned_stop                no high part that is better
 --   turned_two, turned_down    two stretches of high parts, from below or from above
 --   wish_least, turned_past    the wish's own code has the least value; nothing is better than a cell there
 --   axis_least                 the law
@@ -17,7 +17,7 @@ use lib.Dec.{leb, ltb, eqb}
 use borrow.Author.Tests.{leb-true, leb-false, ltb-true, ltb-false}
 use Rattle.meaning.proofs.Parity.{sum}
 use Rattle.ranks.specs.declared.Scale.{Scale}
-use Rattle.ranks.specs.Values.{axis_codes, value, behind, Sound}
+use Rattle.ranks.specs.Values.{axis_codes, value, behind}
 use Rattle.ranks.proofs.Costs.{Away, value_away}
 use Rattle.cells.specs.Cells.{Best, Depth, Rank, Part, Here, Turned, high, rest, axis_over}
 use Rattle.cells.proofs.Best.{best_none, best_then, best_like, best_same}
@@ -35,9 +35,6 @@ part_of {p} {lo} {D} {l} {s} {base} {m} {r} same =
     (λ q t. record { at = t.at; within = t.within; member = sym (same t.at) ∙ t.member; is = t.is })
 
 module _ {unit : ℕ} {scale : Scale} {D : Depth} {l : List ℕ} {base : ℕ} where
-  pub turned_none : {low high' m : ℕ} → high' ≤ low → Best (Turned unit scale D l low high' base) m m
-  turned_none {low} {high'} {m} h = best_none (Turned unit scale D l low high' base) m (λ q t. absurd (omega (arith, t.from, t.below)))
-
   -- nothing behind the high parts of a stretch is better
   pub turned_stop : {low high' m : ℕ}
       → ((e : ℕ) (t : D.Rest) → low ≤ e → e < high' → sum (λ k. eqb (high unit k) e && D.test t (rest unit k)) l ≡ true
@@ -79,22 +76,22 @@ module _ {unit : ℕ} {scale : Scale} {D : Depth} {l : List ℕ} {base : ℕ} wh
 -- ---- the law
 
 -- the wish's own code has the least value
-pub wish_least : {scale : Scale} → Sound scale → (c : ℕ) → value scale scale.wish ≤ value scale c
-wish_least {scale} sound c = go (leb w c) refl
+pub wish_least : (scale : Scale) (c : ℕ) → value scale scale.wish ≤ value scale c
+wish_least scale c = go (leb w c) refl
   where
     w : ℕ
     w = scale.wish
 
     go : (t : Bool) → leb w c ≡ t → value scale w ≤ value scale c
-    go true e = (value_away scale sound).up w c (omega arith) (leb-true w c e)
-    go false e = (value_away scale sound).down c w (omega (arith, leb-false w c e)) (omega arith)
+    go true e = (value_away scale).up w c (omega arith) (leb-true w c e)
+    go false e = (value_away scale).down c w (omega (arith, leb-false w c e)) (omega arith)
 
 -- nothing is better than a cell at the wish's code
-pub turned_past : {unit : ℕ} {scale : Scale} {D : Depth} {l : List ℕ} {base low high' m : ℕ} → Sound scale → m ≤ base + value scale scale.wish
+pub turned_past : {unit : ℕ} {scale : Scale} {D : Depth} {l : List ℕ} {base low high' m : ℕ} → m ≤ base + value scale scale.wish
     → Best (Turned unit scale D l low high' base) m m
-turned_past {unit} {scale} sound h = turned_stop (λ e t p q n. omega (arith, wish_least sound (behind scale.wish e)))
+turned_past {unit} {scale} h = turned_stop (λ e t p q n. omega (arith, wish_least scale (behind scale.wish e)))
 
-module _ (unit : ℕ) (scale : Scale) (sound : Sound scale) (D : Depth) (l : List ℕ) (base : ℕ) where
+module _ (unit : ℕ) (scale : Scale) (D : Depth) (l : List ℕ) (base : ℕ) where
   abbrev w : ℕ
   w = scale.wish
 
@@ -102,7 +99,7 @@ module _ (unit : ℕ) (scale : Scale) (sound : Sound scale) (D : Depth) (l : Lis
   v = value scale
 
   away : Away w v
-  away = value_away scale sound
+  away = value_away scale
 
   -- the cells at the wish's code and those behind the high parts
   abbrev Near : ℕ → Type 0
@@ -117,7 +114,7 @@ module _ (unit : ℕ) (scale : Scale) (sound : Sound scale) (D : Depth) (l : Lis
 
   cell_of_lem : (q : ℕ) → Near q → (p : ℕ) × Cell p × (p ≤ q)
   cell_of_lem q (inl h) =
-      (q, record { at = (w, h.at); within = (sound.code, h.within); member = h.member; is = omega (arith, h.is) }, omega arith)
+      (q, record { at = (w, h.at); within = (scale.sound.0, h.within); member = h.member; is = omega (arith, h.is) }, omega arith)
   cell_of_lem q (inr h) =
       let t = h.cell.at in
       let c = to_code away (at t) h.number (turns_sum (high unit) (λ k. D.test t (rest unit k)) l h.number ∙ h.cell.member) in (
@@ -127,7 +124,7 @@ module _ (unit : ℕ) (scale : Scale) (sound : Sound scale) (D : Depth) (l : Lis
       )
 
   near_of : (q : ℕ) → Cell q → (p : ℕ) × Near p × (p ≤ q)
-  near_of q h = go (to_turn away (at t) axis_codes c sound.code h.within.0 h.member)
+  near_of q h = go (to_turn away (at t) axis_codes c scale.sound.0 h.within.0 h.member)
     where
       c : ℕ
       c = h.at.0
@@ -139,7 +136,7 @@ module _ (unit : ℕ) (scale : Scale) (sound : Sound scale) (D : Depth) (l : Lis
       go (inl e) = (
         base + v w + D.worth t,
         inl (record { at = t; within = h.within.1; member = e; is = refl }),
-        omega (arith, h.is, wish_least sound c),
+        omega (arith, h.is, wish_least scale c),
       )
       go (inr r) = (
         base + v (behind w r.number) + D.worth t,
@@ -165,6 +162,6 @@ module _ (unit : ℕ) (scale : Scale) (sound : Sound scale) (D : Depth) (l : Lis
       (best_then (Here unit scale D l base) (Turned unit scale D l 0 axis_codes base) Near m r s (λ q t. inl t) (λ q t. inr t) (λ q t. t) h k)
 
 -- the least rank of a list's cells: those at the wish's code, and those behind each high part
-pub axis_least : {unit : ℕ} {scale : Scale} {D : Depth} {l : List ℕ} {base m r s : ℕ} → Sound scale
+pub axis_least : {unit : ℕ} {scale : Scale} {D : Depth} {l : List ℕ} {base m r s : ℕ}
     → Best (Here unit scale D l base) m r → Best (Turned unit scale D l 0 axis_codes base) r s → Best (Rank (axis_over unit scale D) l base) m s
-axis_least {unit} {scale} {D} {l} {base} sound h k = law unit scale sound D l base h k
+axis_least {unit} {scale} {D} {l} {base} h k = law unit scale D l base h k

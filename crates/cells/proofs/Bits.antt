@@ -1,18 +1,18 @@
 -- Rows of bits of which single ones are turned.
 --   toggled                     one bit turned
 --   set_bit                     a bit, as it is read
---   Telling, tells-..           a row that tells of the numbers at the first places
+--   tells_none, tells_on        a row that tells of the numbers at the first places
 -- Assumes nothing.
-use mathlib.Core.Path.{◌≡◌, refl, sym, ◌∙◌, ap, ap₂, subst}
+use mathlib.Core.Path.{◌≡◌, refl, sym, ◌∙◌, ap, ap₂}
 use mathlib.Core.Bool.{Bool, true, false}
 use mathlib.Core.List.{List, [], ◌∷◌}
-use Prim.Native.Nat.{ℕ, zero, suc, ◌+◌, ◌*◌, ◌/◌, ◌%◌, ◌^◌, ◌≤◌, ◌<◌}
+use Prim.Native.Nat.{ℕ, zero, suc, ◌+◌, ◌*◌, ◌/◌, ◌%◌, ◌^◌, ◌<◌}
 use native.Mathlib.Omega.{arith}
 use native.Mathlib.Numerals.{add-one}
 use lib.Dec.{eqb}
 use lib.Bits.{bit_xor}
 use lib.ListN.{length, get_or, take, set, length-set, replicate, get_or-replicate, length-replicate}
-use lib.Seq.{get_or-set_same, get_or-set_other, take-suc, take_all}
+use lib.Seq.{get_or-set_same, get_or-set_other, take-suc}
 use borrow.Author.Tests.{eqb-true, eqb-false, eq-eqb, ne_eqb}
 use Rattle.meaning.specs.Counting.{odd}
 use Rattle.meaning.proofs.Parity.{◌⊕◌, ⊕_comm, ⊕_false, sum, sum_append}
@@ -83,6 +83,3 @@ tells_on l row row' i h small t f =
           sym (sum_append (λ k. eqb k x) (take i l) (get_or l i 0 ∷ [])) ∙
           ap (sum (λ k. eqb k x)) (sym (take-suc l i 0 h) ∙ ap (λ (n : ℕ). take n l) (sym (add-one i)));
     }
-
-pub tells_all : (l row : List ℕ) (i : ℕ) → length l ≤ i → Tells (take i l) row → Tells l row
-tells_all l row i h t = subst (λ (m : List ℕ). Tells m row) (take_all i l h) t

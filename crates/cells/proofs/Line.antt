@@ -2,7 +2,7 @@
 --   less_at, number_of, number_at, number_small      a member less a base; the number of a pair
 --   hit                        an odd number of members that pass is not none
 --   Among, among-..            the ranks behind the numbers at the first places
---   OddTo, odd-..              the parity of the numbers up to a code, so far
+--   odd_next                   the parity of the numbers up to a code, so far
 --   line_here, line_behind     the least rank of a line whose wish's code is permitted, and of one where it is not
 -- Assumes nothing.
 use mathlib.Core.Path.{◌≡◌, refl, sym, ◌∙◌, ap, ap₂, subst}
@@ -14,12 +14,12 @@ use native.Mathlib.Omega.{arith}
 use native.Mathlib.Numerals.{add-one}
 use lib.Dec.{leb, ltb, eqb}
 use lib.ListN.{length, get_or, take, length-map}
-use lib.Seq.{take-suc, take_all}
+use lib.Seq.{take-suc}
 use borrow.Author.Tests.{eqb-true, ltb-true, ltb-false}
 use Rattle.meaning.proofs.Parity.{◌⊕◌, ⊕_false, sum, sum_append, sum_ext}
 use Rattle.rising.specs.Merged.{less_base}
 use Rattle.ranks.specs.declared.Scale.{Scale}
-use Rattle.ranks.specs.Values.{axis_codes, value, Sound}
+use Rattle.ranks.specs.Values.{axis_codes, value}
 use Rattle.cells.specs.Cells.{Best, Rank, Here, Turned, point, line_in, line_unit, rest, high}
 use Rattle.cells.specs.Line.{numbers_of, Behind}
 use Rattle.cells.proofs.Best.{best_none, best_then, best_same}
@@ -78,9 +78,6 @@ pub record Among (scale : Scale) (l : List ℕ) (i base q : ℕ) : Type 0 where
   pub rank : Behind scale (get_or l place 0) base q
 
 module _ {scale : Scale} {l : List ℕ} {base : ℕ} where
-  pub among_none : {m : ℕ} → Best (Among scale l 0 base) m m
-  among_none {m} = best_none (Among scale l 0 base) m (λ q t. absurd (omega (arith, t.below)))
-
   more : {i : ℕ} (q : ℕ) → Among scale l i base q → Among scale l (i + 1) base q
   more q t = record { place = t.place; below = omega (arith, t.below); odd = t.odd; rank = t.rank }
 
@@ -153,15 +150,12 @@ odd_next f l i o b h p q =
     xor_⊕ false true = refl
     xor_⊕ false false = refl
 
-pub odd_all : (f : ℕ → Bool) (l : List ℕ) (i : ℕ) (o : Bool) → length l ≤ i → o ≡ sum f (take i l) → o ≡ sum f l
-odd_all f l i o h p = p ∙ ap (sum f) (take_all i l h)
-
 -- ---- the whole line
 
-module _ {scale : Scale} (sound : Sound scale) {l : List ℕ} {base best : ℕ} where
+module _ (scale : Scale) {l : List ℕ} {base best : ℕ} where
   pub line_here : {r : ℕ} → true ≡ sum (λ k. leb k scale.wish) l → r ≡ min best (base + value scale scale.wish)
       → Best (Rank (line_in scale) l base) best r
-  line_here {r} e h = axis_least sound at_wish (turned_past sound (omega arith))
+  line_here {r} e h = axis_least {scale = scale} at_wish (turned_past {scale = scale} (omega arith))
     where
       cell : (q : ℕ) → q ≡ base + value scale scale.wish → Here 1 scale point l base q
       cell q p = record { at = tt; within = tt; member = whole_leb scale.wish l ∙ sym e; is = omega arith }
@@ -180,7 +174,7 @@ module _ {scale : Scale} (sound : Sound scale) {l : List ℕ} {base best : ℕ} 
 
   pub line_behind : {r : ℕ} → false ≡ sum (λ k. leb k scale.wish) l → Best (Turned 1 scale point l 0 axis_codes base) best r
       → Best (Rank (line_in scale) l base) best r
-  line_behind {r} e = axis_least sound none
+  line_behind {r} e = axis_least {scale = scale} none
     where
       none : Best (Here 1 scale point l base) best best
       none =

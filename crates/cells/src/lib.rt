@@ -6,62 +6,26 @@
 ghost use Rattle.std.specs.Prelude.{◌≡◌, [], ◌-◌, ◌*◌, ◌<◌, ◌≤◌, ◌^◌, leb, length, MatchOption};
 ghost use Rattle.meaning.proofs.Parity.{sum};
 ghost use Rattle.rows.specs.Rows.{bit_at};
-ghost use Rattle.ranks.specs.Values.{axis_codes, Sound};
+ghost use Rattle.ranks.specs.Values.{axis_codes};
 ghost use Rattle.cells.specs.Cells.{Best, Rank, Turned, point, line_in, line_unit, rest};
 ghost use Rattle.cells.specs.Line.{Above, numbers_of, NotAt, Once, Behind, Toggled, Tells};
 
 use codes::LINE;
-use ranks::{END, Scale, value_at, value_behind};
+use ranks::{END, Scale};
 use rows::BITS;
 
 // The words of a row that has a bit for each number of a line of keys.
 const WORDS: usize = 32;
 
-// The lesser of best and the rank, from a base up, of the code just behind a number, if the number is a code.
+// The lesser of best and the rank, from rank up, of the code just behind a number, if the number is a code.
 fn behind_one(second: Scale, number: u32, rank: u64, best: u64) -> u64
-    requires sound { Sound second }
-    requires rank_bound { rank < 2 ^ 60 }
+    requires { rank < 2 ^ 60 }
     ensures { Best (Behind second number rank) best result }
 {
     if END <= number {
         return best;
     }
-    best.min(rank + value_behind(second, number))
-}
-
-// The number on its line of a pair that counts from a base.
-fn number_of(pair: u32, base: u32) -> u32
-    requires { base ≤ pair }
-    ensures { result ≡ rest line_unit (pair - base) }
-{
-    (pair - base) % LINE
-}
-
-// Whether an odd number of pairs have a number of at most a code.
-fn odd_upto(pairs: &[u32], base: u32, code: u32) -> bool
-    requires { Above base pairs.now }
-    ensures { result ≡ sum (λ k. leb k code) (numbers_of base pairs.now) }
-{
-    let mut odd = false;
-    for pair in pairs {
-        odd ^= number_of(*pair, base) <= code;
-    }
-    odd
-}
-
-// The least of best and the ranks, from a base up, of the codes just behind the numbers of some pairs, of which each is there an odd number of times.
-fn behind_each(pairs: &[u32], base: u32, second: Scale, rank: u64, best: u64) -> u64
-    requires above { Above base pairs.now }
-    requires once { Once (numbers_of base pairs.now) }
-    requires sound { Sound second }
-    requires rank_bound { rank < 2 ^ 60 }
-    ensures { Best (Turned 1 second point (numbers_of base pairs.now) 0 axis_codes rank) best result }
-{
-    let mut found = best;
-    for pair in pairs {
-        found = behind_one(second, number_of(*pair, base), rank, found);
-    }
-    found
+    best.min(rank + second.value_behind(number))
 }
 
 // Turns one bit of a row.
@@ -80,76 +44,110 @@ fn is_set(row: &[u64], at: usize) -> bool
     (row[at / BITS] >> (at % BITS)) % 2 == 1
 }
 
-// Fills a row that has no bit set: a bit is set where an odd number of pairs have that number.
-fn fill(pairs: &[u32], base: u32, row: &mut [u64])
-    requires above { Above base pairs.now }
-    requires tells { Tells [] row.old }
-    ensures { Tells (numbers_of base pairs.now) row.new }
-{
-    for pair in pairs {
-        toggle(row, number_of(*pair, base) as usize);
-    }
+// Pairs of numbers as keys that count from a base, the first key of their plane.
+#[derive(Clone, Copy)]
+pub struct Pairs<'a> {
+    pub list: &'a [u32],
+    pub base: u32,
+    pub ghost above: { Above base list.now },
 }
 
-// The least of best and the ranks, from a base up, of the codes just behind the numbers that a row says are there an odd number of times.
-fn behind_odd(pairs: &[u32], base: u32, row: &[u64], second: Scale, rank: u64, best: u64) -> u64
-    requires above { Above base pairs.now }
-    requires tells { Tells (numbers_of base pairs.now) row.now }
-    requires sound { Sound second }
-    requires rank_bound { rank < 2 ^ 60 }
-    ensures { Best (Turned 1 second point (numbers_of base pairs.now) 0 axis_codes rank) best result }
-{
-    let mut found = best;
-    for pair in pairs {
-        let number = number_of(*pair, base);
-        if is_set(row, number as usize) {
-            found = behind_one(second, number, rank, found);
+impl Pairs<'_> {
+    // The number on its line of a pair.
+    fn number_of(self, pair: u32) -> u32
+        requires { self.base ≤ pair }
+        ensures { result ≡ rest line_unit (pair - self.entry.base) }
+    {
+        (pair - self.base) % LINE
+    }
+
+    // Whether an odd number of the pairs have a number of at most a code.
+    fn odd_upto(self, code: u32) -> bool
+        ensures { result ≡ sum (λ k. leb k code) (numbers_of self.entry.base self.entry.list.now) }
+    {
+        let mut odd = false;
+        for pair in self.list {
+            odd ^= self.number_of(*pair) <= code;
+        }
+        odd
+    }
+
+    // The least of best and the ranks, from rank up, of the codes just behind the pairs' numbers, of which each is there an odd number of times.
+    fn behind_each(self, second: Scale, rank: u64, best: u64) -> u64
+        requires once { Once (numbers_of self.base self.list.now) }
+        requires rank_bound { rank < 2 ^ 60 }
+        ensures { Best (Turned 1 second point (numbers_of self.entry.base self.entry.list.now) 0 axis_codes rank) best result }
+    {
+        let mut found = best;
+        for pair in self.list {
+            found = behind_one(second, self.number_of(*pair), rank, found);
+        }
+        found
+    }
+
+    // Fills a row that has no bit set: a bit is set where an odd number of the pairs have that number.
+    fn fill(self, row: &mut [u64])
+        requires { Tells [] row.old }
+        ensures { Tells (numbers_of self.entry.base self.entry.list.now) row.new }
+    {
+        for pair in self.list {
+            toggle(row, self.number_of(*pair) as usize);
         }
     }
-    found
-}
 
-// The least of best and the ranks, from a base up, of the cells of a line, where the wish's code is permitted there or no rank can be less than best.
-fn at_wish(pairs: &[u32], base: u32, second: Scale, rank: u64, best: u64) -> Option<u64>
-    requires above { Above base pairs.now }
-    requires sound { Sound second }
-    requires rank_bound { rank < 2 ^ 60 }
-    ensures { MatchOption result (NotAt second.wish (numbers_of base pairs.now)) (Best (Rank (line_in second) (numbers_of base pairs.now) rank) best) }
-{
-    if best <= rank {
-        return Some(best);
+    // The least of best and the ranks, from rank up, of the codes just behind the numbers that a row says are there an odd number of times.
+    fn behind_odd(self, row: &[u64], second: Scale, rank: u64, best: u64) -> u64
+        requires tells { Tells (numbers_of self.base self.list.now) row.now }
+        requires rank_bound { rank < 2 ^ 60 }
+        ensures { Best (Turned 1 second point (numbers_of self.entry.base self.entry.list.now) 0 axis_codes rank) best result }
+    {
+        let mut found = best;
+        for pair in self.list {
+            let number = self.number_of(*pair);
+            if is_set(row, number as usize) {
+                found = behind_one(second, number, rank, found);
+            }
+        }
+        found
     }
-    if odd_upto(pairs, base, second.wish) {
-        return Some(best.min(rank + value_at(second, second.wish)));
-    }
-    None
-}
 
-// The least of best and the ranks, from a base up, of the cells of a line that has each number of some pairs, all different.
-pub fn own_line(pairs: &[u32], base: u32, second: Scale, rank: u64, best: u64) -> u64
-    requires above { Above base pairs.now }
-    requires once { Once (numbers_of base pairs.now) }
-    requires sound { Sound second }
-    requires rank_bound { rank < 2 ^ 60 }
-    ensures { Best (Rank (line_in second) (numbers_of base pairs.now) rank) best result }
-{
-    if let Some(found) = at_wish(pairs, base, second, rank, best) {
-        return found;
+    // The least of best and the ranks, from rank up, of the cells of a line, where the wish's code is permitted there or none can be less than best.
+    fn at_wish(self, second: Scale, rank: u64, best: u64) -> Option<u64>
+        requires { rank < 2 ^ 60 }
+        ensures { MatchOption result (NotAt second.wish (numbers_of self.entry.base self.entry.list.now))
+            (Best (Rank (line_in second) (numbers_of self.entry.base self.entry.list.now) rank) best) }
+    {
+        if best <= rank {
+            return Some(best);
+        }
+        if self.odd_upto(second.wish) {
+            return Some(best.min(rank + second.value_at(second.wish)));
+        }
+        None
     }
-    behind_each(pairs, base, second, rank, best)
-}
 
-// The same of the exclusive or of all lines that some pairs lie on.
-pub fn joint_line(pairs: &[u32], base: u32, second: Scale, rank: u64, best: u64) -> u64
-    requires above { Above base pairs.now }
-    requires sound { Sound second }
-    requires rank_bound { rank < 2 ^ 60 }
-    ensures { Best (Rank (line_in second) (numbers_of base pairs.now) rank) best result }
-{
-    if let Some(found) = at_wish(pairs, base, second, rank, best) {
-        return found;
+    // The least of best and the ranks, from rank up, of the cells of a line that has each number of the pairs, all different.
+    pub fn own_line(self, second: Scale, rank: u64, best: u64) -> u64
+        requires once { Once (numbers_of self.base self.list.now) }
+        requires rank_bound { rank < 2 ^ 60 }
+        ensures { Best (Rank (line_in second) (numbers_of self.entry.base self.entry.list.now) rank) best result }
+    {
+        if let Some(found) = self.at_wish(second, rank, best) {
+            return found;
+        }
+        self.behind_each(second, rank, best)
     }
-    let mut row = [0u64; WORDS];
-    fill(pairs, base, &mut row);
-    behind_odd(pairs, base, &row, second, rank, best)
+
+    // The same of the exclusive or of all lines that the pairs lie on.
+    pub fn joint_line(self, second: Scale, rank: u64, best: u64) -> u64
+        requires { rank < 2 ^ 60 }
+        ensures { Best (Rank (line_in second) (numbers_of self.entry.base self.entry.list.now) rank) best result }
+    {
+        if let Some(found) = self.at_wish(second, rank, best) {
+            return found;
+        }
+        let mut row = [0u64; WORDS];
+        self.fill(&mut row);
+        self.behind_odd(&row, second, rank, best)
+    }
 }

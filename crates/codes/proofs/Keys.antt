@@ -15,7 +15,8 @@ use native.Mathlib.Nat.{add_assoc}
 use native.Mathlib.Omega.{arith}
 use borrow.Author.Tests.{le-leb}
 use lib.Dec.{leb, ltb, eqb}
-use Rattle.meaning.specs.Numbers.{Axis, focus, first, second, Corner, corner, is_number, is_corner, pair_of, number, steps}
+use Rattle.meaning.specs.Numbers.{Axis, focus, first, second, corner, is_number, is_corner, pair_of, number, steps}
+use Rattle.meaning.specs.declared.Corner.{Corner}
 use Rattle.meaning.specs.Lists.{below, on_line}
 use Rattle.codes.specs.Keys.{key_of, plane_of, rest_of, line_of, last_of, of_key, pair_key}
 use Rattle.codes.proofs.Tests.{and_both, both_and, lex, lex_same}

@@ -7,7 +7,8 @@
 --                      parallel to the axis have the same, others have not
 --   corner_at           the corner of the numbers 3i, 3i + 1 and 3i + 2 of a list
 use Rattle.std.specs.Prelude.{List, ℕ, ◌+◌, ◌*◌, ◌/◌, ◌%◌, ℤ, pos, get_or}
-use Rattle.meaning.specs.Numbers.{Axis, Corner, corner, pair_of, number, steps}
+use Rattle.meaning.specs.Numbers.{Axis, corner, pair_of, number, steps}
+use Rattle.meaning.specs.declared.Corner.{Corner}
 
 abbrev pub key_of : Corner → ℕ
 key_of v = steps v.focus * 2099200 + steps v.first * 2048 + steps v.second

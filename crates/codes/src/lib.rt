@@ -1,8 +1,9 @@
-// The one place where a signed number of 16 bits becomes an unsigned one, and back, and a vertex becomes its key.
+// The crossing: a signed number of 16 bits as an unsigned one, by how far it lies above -32768, so that order is kept; and back. And a vertex as
+// one number, its key. (Numbers as their bits, which keep no order, are those of `words`.)
 // Inner: what other crates build on. It relies on the definitions of `meaning` alone.
 #![tactic(auto)]
 
-ghost use Rattle.std.specs.Prelude.{◌≡◌, true, ◌+◌, ◌*◌, ◌<◌, min, pos, length, get_or};
+ghost use Rattle.std.specs.Prelude.{◌≡◌, true, ◌+◌, ◌*◌, ◌<◌, pos, length, get_or};
 ghost use Rattle.meaning.specs.Numbers.{is_number, is_corner, steps};
 ghost use Rattle.codes.specs.Lift.{lifted, lowered};
 ghost use Rattle.codes.specs.Keys.{key_of, corner_at};
@@ -63,11 +64,4 @@ pub fn key_at(list: &[i16], i: usize) -> u32
     let y = steps_at(list, 3 * i + 1);
     let z = steps_at(list, 3 * i + 2);
     x * PLANE + y * LINE + z
-}
-
-// The lesser of two places.
-pub fn lesser(a: usize, b: usize) -> usize
-    ensures { result ≡ min a b }
-{
-    if a < b { a } else { b }
 }

@@ -14,7 +14,9 @@ use Prim.Native.Nat.{ℕ, ◌*◌}
 use native.Mathlib.Omega.{arith}
 use lib.IntN.{ℤ}
 use lib.ListN.{length, take, drop}
-use Rattle.meaning.specs.Numbers.{Axis, Corner, Square, is_code, is_number}
+use Rattle.std.specs.Prelude.{Ok}
+use Rattle.meaning.specs.Numbers.{Axis, Square, is_code, is_number}
+use Rattle.meaning.specs.declared.Corner.{Corner}
 use Rattle.meaning.specs.Lists.{vertices, numbers, permitted, Valid}
 use Rattle.meaning.specs.Verdicts.{verdict, passes}
 use Rattle.meaning.specs.OneList.{one_pairs, WithinCodes}
@@ -25,9 +27,7 @@ use Rattle.meaning.proofs.Made.{length_numbers, length_pairs, Stands, placed_sta
 use Rattle.meaning.proofs.Checked.{passes_valid}
 use Rattle.meaning.proofs.Maps.{valid_within}
 use Rattle.meaning.proofs.Making.{section_within, lower_within, upper_within}
-use Rattle.cuts.specs.declared.Sectioned.TheVariants as section
-use Rattle.cuts.specs.declared.Halved.TheVariants as split
-use Rattle.cuts.specs.Answers.{section_pairs, SectionPromise, halves, lower_list, upper_list, placed_halves, SplitPromise}
+use Rattle.cuts.specs.Answers.{section_pairs, SectionPromise, halves, counts, lower_list, upper_list, placed_halves, SplitPromise}
 use Rattle.cuts.proofs.Promises.{outcome_done}
 use Rattle.cuts.proofs.Cuts.{low_short, high_short, both_fit}
 
@@ -54,7 +54,7 @@ halves_stand l u low high m n low' high' e = go (fits per_vertex l (length low))
 -- ---- a section that is done with n pairs, on the axis with this number
 
 module _ (ns : List ℤ) (which : ℕ) (k : ℤ) (before : List ℤ) (n : ℕ) (after : List ℤ)
-    (made : SectionPromise ns which k before (section.Done n) after) where
+    (made : SectionPromise ns which k before (Ok n) after) where
   section_done : (axis : Axis) × (axis_of which ≡ some axis) × (is_code k ≡ true) × (passes (verdict ns) ≡ true) ×
       Stands per_pair pair_numbers (section_pairs axis k ns) before n after
   unfolding SectionPromise
@@ -94,7 +94,7 @@ module _ (ns : List ℤ) (which : ℕ) (k : ℤ) (before : List ℤ) (n : ℕ) (
 -- ---- a split that is done with m and n vertices, on the axis with this number
 
 module _ (ns : List ℤ) (which : ℕ) (p : ℤ) (low high : List ℤ) (m n : ℕ) (low' high' : List ℤ)
-    (made : SplitPromise ns which p low high (split.Done m n) low' high') where
+    (made : SplitPromise ns which p low high (Ok (counts m n)) low' high') where
   split_done : (axis : Axis) × (axis_of which ≡ some axis) × (is_number p ≡ true) × (passes (verdict ns) ≡ true) ×
       (Stands per_vertex numbers (lower_list axis p ns) low m low' × Stands per_vertex numbers (upper_list axis p ns) high n high')
   unfolding SplitPromise

@@ -7,7 +7,7 @@ use mathlib.Core.List.{List}
 use Prim.Native.Nat.{ℕ}
 use lib.IntN.{ℤ}
 use lib.ListN.{length}
-use Rattle.meaning.specs.Numbers.{Corner}
+use Rattle.meaning.specs.declared.Corner.{Corner}
 use Rattle.meaning.specs.Lists.{numbers}
 use Rattle.meaning.specs.Outcomes.{Outcome, outcome, Nothing, nothing, done_both, no_room_for, kept, per_vertex, fits, front}
 use Rattle.cuts.specs.Answers.{Halves, halves, placed_halves}

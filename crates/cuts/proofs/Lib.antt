@@ -2,3 +2,4 @@
 pub mod Cuts
 pub mod Promises
 pub mod Cells
+pub mod Stated

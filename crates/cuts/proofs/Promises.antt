@@ -3,7 +3,7 @@
 --   number_back                             the steps of a number give it back
 --   outcome_bad, outcome_refused, outcome_next     the order of refusals: a bad axis or number; then the check's; then what follows
 --   outcome_done                            what is done was asked of an axis and a number in range, and of a list that passed the check
---   is_map, few_vertices_lem                a list that the check calls valid is a travel map, of at most 1,024 vertices
+--   few_vertices_lem                        a list that the check calls valid has at most 1,024 vertices
 --   section_bad, section_refused, section_made     the cases of section
 --   split_bad, split_refused, split_made           the cases of split
 --   section_once, split_once                the values tell the answers apart
@@ -23,26 +23,23 @@ use mir.Syntax.{w16}
 use mir.Val.{SFits, to_z, of_z}
 use mir.ValLaws.{to_z-of_z}
 use Rattle.meaning.specs.Numbers.{Axis, focus, first, second, number, steps, is_code, is_number}
-use Rattle.meaning.specs.Lists.{vertices, Valid, most_vertices}
-use Rattle.meaning.specs.Verdicts.{verdict, passes}
+use Rattle.meaning.specs.Lists.{vertices, most_vertices}
+use Rattle.std.specs.Prelude.{Result, Ok, Err}
+use Rattle.meaning.specs.Verdicts.{Verdict, verdict, passes, Valid as Passed}
 use Rattle.meaning.specs.Operations.{axis_of, pair_numbers}
-use Rattle.meaning.specs.Outcomes.{Values, Outcome, Nothing, nothing, refused, bad_number, kept, checked, per_pair, placed}
-use Rattle.meaning.specs.declared.Verdict.{Verdict}
-use Rattle.meaning.specs.declared.Verdict.TheVariants.{Valid as Passed, NotTriples, TooMany, OutOfRange, NotRising, OddLine}
-use Rattle.meaning.proofs.Integers.{not_yes, and_left, and_right}
-use Rattle.meaning.proofs.Checked.{passed, verdict_valid}
+use Rattle.meaning.specs.Outcomes.{Values, Outcome, outcome, Nothing, nothing, refused, bad_number, kept, checked, per_pair, placed}
+use Rattle.meaning.specs.declared.Refusal.{Refusal}
+use Rattle.meaning.specs.declared.Refusal.TheVariants.{NotTriples, TooMany, OutOfRange, NotRising, OddLine}
+use Rattle.meaning.proofs.Integers.{and_left, and_right}
+use Rattle.meaning.proofs.Checked.{verdict_valid}
 use Rattle.meaning.proofs.Outcomes.{verdict_by, verdict_back, checked_next, checked_refused}
 use Rattle.codes.specs.Lift.{lifted}
-use Rattle.lists.specs.Check.{Checked}
-use Rattle.lists.proofs.Verdicts.{checked_verdict}
 use Rattle.codes.proofs.Laws.{is_code_lifted, is_number_lifted, lifted_number, number_steps}
 use Rattle.keys.specs.Parts.{axis_at}
-use Rattle.cuts.specs.declared.Sectioned.{Sectioned}
-use Rattle.cuts.specs.declared.Sectioned.TheVariants as section
-use Rattle.cuts.specs.declared.Halved.{Halved}
-use Rattle.cuts.specs.declared.Halved.TheVariants as split
-use Rattle.cuts.specs.Answers.{asked, section_values, section_says, section_pairs, SectionPromise}
-use Rattle.cuts.specs.Answers.{Halves, halves, split_values, split_says, lower_list, upper_list, placed_halves, SplitPromise}
+use Rattle.cuts.specs.declared.SectionError.TheVariants as section
+use Rattle.cuts.specs.declared.SplitError.TheVariants as split
+use Rattle.cuts.specs.Answers.{asked, Sectioned, section_values, section_says, section_pairs, SectionPromise}
+use Rattle.cuts.specs.Answers.{Halves, halves, Halved, counts, split_values, split_says, lower_list, upper_list, placed_halves, SplitPromise}
 use Rattle.cuts.specs.Steps.{in_range, section_by_steps, split_by_steps}
 
 -- ---- ranges
@@ -96,12 +93,12 @@ module _ {Left : Type 0} (left : Left) where
   asked_done (some a) false next e = absurd (omega arith)
 
   checked_done : (v : Verdict) (next : Outcome Nothing Left) → (checked 1 v (kept nothing left) next).values.number ≡ 0 → passes v ≡ true
-  checked_done Passed next e = refl
-  checked_done NotTriples next e = absurd (omega arith)
-  checked_done TooMany next e = absurd (omega arith)
-  checked_done (OutOfRange i) next e = absurd (omega arith)
-  checked_done (NotRising i) next e = absurd (omega arith)
-  checked_done (OddLine i) next e = absurd (omega arith)
+  checked_done (Ok u) next e = refl
+  checked_done (Err NotTriples) next e = absurd (omega arith)
+  checked_done (Err TooMany) next e = absurd (omega arith)
+  checked_done (Err (OutOfRange i)) next e = absurd (omega arith)
+  checked_done (Err (NotRising i)) next e = absurd (omega arith)
+  checked_done (Err (OddLine i)) next e = absurd (omega arith)
 
 -- both outcomes go by this order; b says that the number that is asked is in range, and left is what the results hold
 module _ {Left : Type 0} (ns : List ℤ) (n : ℕ) (b : Bool) (left : Left) (next : Axis → Outcome Nothing Left) where
@@ -132,20 +129,10 @@ module _ {Left : Type 0} (ns : List ℤ) (n : ℕ) (b : Bool) (left : Left) (nex
 crossed_lem : (z : ℤ) → SFits w16 z → {u : ℕ} → u ≡ lifted (to_z w16 (of_z w16 z)) → u ≡ lifted z
 crossed_lem z fits e = e ∙ ap lifted (to_z-of_z w16 z fits)
 
--- a list by what the check answers
-module _ (ns : List ℤ) (v : Verdict) (checked : Checked ns v) where
-  told : v ≡ Passed → verdict ns ≡ Passed
-  told is = sym (checked_verdict ns v checked) ∙ is
-
-  pub is_map : v ≡ Passed → Valid (vertices ns)
-  is_map is = ((verdict_valid ns).0 (told is)).1
-
-  pub few_vertices_lem : v ≡ Passed → length (vertices ns) ≤ 1024
-  unfolding most_vertices
-  few_vertices_lem is = (is_map is).few
-
-  is_refused : (v ≡ Passed → ⊥) → passes (verdict ns) ≡ false
-  is_refused h = ap passes (sym (checked_verdict ns v checked)) ∙ not_yes (passes v) (λ e. h (passed v e))
+-- a list that the check calls valid
+pub few_vertices_lem : (ns : List ℤ) → verdict ns ≡ Passed → length (vertices ns) ≤ 1024
+unfolding most_vertices
+few_vertices_lem ns e = ((verdict_valid ns).0 e).1.few
 
 -- ---- the promise of section, case by case
 
@@ -158,26 +145,27 @@ module _ (ns : List ℤ) (n : ℕ) (k : ℤ) (before : List ℤ) (fits : SFits w
   in_range_lem : (leb n 2 && is_code k) ≡ good
   in_range_lem = ap (leb n 2 &&◌) (is_code_lem k u (crossed_lem k fits lift)) ∙ sym range
 
-  pub section_bad : good ≡ false → SectionPromise ns n k before section.BadRequest before
+  pub section_bad : good ≡ false → SectionPromise ns n k before (Err section.BadRequest) before
   unfolding SectionPromise
   section_bad e = sym (outcome_bad ns n (is_code k) before made (in_range_lem ∙ e))
 
-  module _ (is : good ≡ true) (v : Verdict) (checked : Checked ns v) where
-    pub section_refused : (v ≡ Passed → ⊥) → SectionPromise ns n k before (section.Refused v) before
+  module _ (is : good ≡ true) where
+    pub section_refused : (r : Refusal) → verdict ns ≡ Err r → SectionPromise ns n k before (Err (section.Refused r)) before
     unfolding SectionPromise
-    section_refused h =
-        ap (λ w. section_says (section.Refused w) before) (checked_verdict ns v checked) ∙
-        sym (outcome_refused ns n (is_code k) before made (in_range_lem ∙ is) (is_refused ns v checked h))
+    section_refused r e =
+        ap (λ v. outcome (refused 1 v) nothing before) (sym e) ∙
+        sym (outcome_refused ns n (is_code k) before made (in_range_lem ∙ is) (ap passes e))
 
-    pub section_made : v ≡ Passed → (r : Sectioned) (after : List ℤ)
-        → section_says r after ≡ section_by_steps ns n (u - 32256) before → SectionPromise ns n k before r after
+    -- made of a travel map that holds this list
+    pub section_made : {ms : List ℤ} → verdict ms ≡ Passed → ms ≡ ns → (r : Sectioned) (after : List ℤ)
+        → section_says r after ≡ section_by_steps ms n (u - 32256) before → SectionPromise ns n k before r after
     unfolding SectionPromise
-    section_made p r after e =
+    section_made p same r after e =
         let at = sym range ∙ is in
         let back = number_back k u (crossed_lem k fits lift) (range_low n u 33279 at) (omega (arith, range_high n u 33279 at)) in
         e ∙
-        ap (λ z. placed per_pair pair_numbers (section_pairs (axis_at n) z ns) before) back ∙
-        sym (outcome_next ns n (is_code k) before made (in_range_lem ∙ is) (ap passes (told ns v checked p)))
+        ap₂ (λ z ls. placed per_pair pair_numbers (section_pairs (axis_at n) z ls) before) back same ∙
+        sym (outcome_next ns n (is_code k) before made (in_range_lem ∙ is) (ap (λ ls. passes (verdict ls)) (sym same) ∙ ap passes p))
 
 -- ---- the promise of split, case by case
 
@@ -190,41 +178,47 @@ module _ (ns : List ℤ) (n : ℕ) (p : ℤ) (low high : List ℤ) (fits : SFits
   in_range' : (leb n 2 && is_number p) ≡ good
   in_range' = ap (leb n 2 &&◌) (is_number_lem p u (crossed_lem p fits lift)) ∙ sym range
 
-  pub split_bad : good ≡ false → SplitPromise ns n p low high split.BadRequest low high
+  pub split_bad : good ≡ false → SplitPromise ns n p low high (Err split.BadRequest) low high
   unfolding SplitPromise
   split_bad e = sym (outcome_bad ns n (is_number p) (halves low high) made_both (in_range' ∙ e))
 
-  module _ (is : good ≡ true) (v : Verdict) (checked : Checked ns v) where
-    pub split_refused : (v ≡ Passed → ⊥) → SplitPromise ns n p low high (split.Refused v) low high
+  module _ (is : good ≡ true) where
+    pub split_refused : (r : Refusal) → verdict ns ≡ Err r → SplitPromise ns n p low high (Err (split.Refused r)) low high
     unfolding SplitPromise
-    split_refused h =
-        ap (λ w. split_says (split.Refused w) low high) (checked_verdict ns v checked) ∙
-        sym (outcome_refused ns n (is_number p) (halves low high) made_both (in_range' ∙ is) (is_refused ns v checked h))
+    split_refused r e =
+        ap (λ v. outcome (refused 1 v) nothing (halves low high)) (sym e) ∙
+        sym (outcome_refused ns n (is_number p) (halves low high) made_both (in_range' ∙ is) (ap passes e))
 
-    pub split_made : v ≡ Passed → (r : Halved) (low' high' : List ℤ)
-        → split_says r low' high' ≡ split_by_steps ns n (u - 32256) low high → SplitPromise ns n p low high r low' high'
+    -- made of a travel map that holds this list
+    pub split_made : {ms : List ℤ} → verdict ms ≡ Passed → ms ≡ ns → (r : Halved) (low' high' : List ℤ)
+        → split_says r low' high' ≡ split_by_steps ms n (u - 32256) low high → SplitPromise ns n p low high r low' high'
     unfolding SplitPromise
-    split_made q r low' high' e =
+    split_made q same r low' high' e =
         let at = sym range ∙ is in
         let back = number_back p u (crossed_lem p fits lift) (range_low n u 33280 at) (range_high n u 33280 at) in
         e ∙
-        ap (λ z. placed_halves (lower_list (axis_at n) z ns) (upper_list (axis_at n) z ns) low high) back ∙
-        sym (outcome_next ns n (is_number p) (halves low high) made_both (in_range' ∙ is) (ap passes (told ns v checked q)))
+        ap₂ (λ z ls. placed_halves (lower_list (axis_at n) z ls) (upper_list (axis_at n) z ls) low high) back same ∙
+        sym (outcome_next ns n (is_number p) (halves low high) made_both (in_range' ∙ is) (ap (λ ls. passes (verdict ls)) (sym same) ∙ ap passes q))
 
 -- ---- the values tell the answers apart
+
+-- the refusal that a verdict is, put as an answer
+abbrev refused_by : {A E : Type 0} → (Refusal → E) → E → Verdict → Result A E
+refused_by wrap other (Ok u) = Err other
+refused_by wrap other (Err r) = Err (wrap r)
 
 -- the answer of a section with these values: a refusal of the list has operand 1
 abbrev section_by : Values → Sectioned
 section_by v =
-    cond (eqb v.operand 1) (section.Refused (verdict_by v.number v.place))
-    (cond (eqb v.number 0) (section.Done v.count)
-    (cond (eqb v.number 9) section.BadRequest section.NoRoom))
+    cond (eqb v.operand 1) (refused_by section.Refused section.NoRoom (verdict_by v.number v.place))
+    (cond (eqb v.number 0) (Ok v.count)
+    (cond (eqb v.number 9) (Err section.BadRequest) (Err section.NoRoom)))
 
 section_back : (r : Sectioned) → section_by (section_values r) ≡ r
-section_back (section.Done n) = refl
-section_back section.BadRequest = refl
-section_back (section.Refused v) = ap section.Refused (verdict_back v)
-section_back section.NoRoom = refl
+section_back (Ok n) = refl
+section_back (Err section.BadRequest) = refl
+section_back (Err (section.Refused r)) = ap (refused_by section.Refused section.NoRoom) (verdict_back (Err r))
+section_back (Err section.NoRoom) = refl
 
 pub section_once : (r s : Sectioned) → section_values r ≡ section_values s → r ≡ s
 section_once r s e = sym (section_back r) ∙ ap section_by e ∙ section_back s
@@ -232,21 +226,20 @@ section_once r s e = sym (section_back r) ∙ ap section_by e ∙ section_back s
 -- the answer of a split with these values: 6 has the half as its operand
 abbrev split_by : Values → Halved
 split_by v =
-    cond (eqb v.number 6) (cond (eqb v.operand 1) split.LowNoRoom split.HighNoRoom)
-    (cond (eqb v.operand 1) (split.Refused (verdict_by v.number v.place))
-    (cond (eqb v.number 0) (split.Done v.count v.second) split.BadRequest))
+    cond (eqb v.number 6) (cond (eqb v.operand 1) (Err split.LowNoRoom) (Err split.HighNoRoom))
+    (cond (eqb v.operand 1) (refused_by split.Refused split.BadRequest (verdict_by v.number v.place))
+    (cond (eqb v.number 0) (Ok (counts v.count v.second)) (Err split.BadRequest)))
 
 split_back : (r : Halved) → split_by (split_values r) ≡ r
-split_back (split.Done m n) = refl
-split_back split.BadRequest = refl
-split_back (split.Refused Passed) = refl
-split_back (split.Refused NotTriples) = refl
-split_back (split.Refused TooMany) = refl
-split_back (split.Refused (OutOfRange i)) = refl
-split_back (split.Refused (NotRising i)) = refl
-split_back (split.Refused (OddLine i)) = refl
-split_back split.LowNoRoom = refl
-split_back split.HighNoRoom = refl
+split_back (Ok c) = refl
+split_back (Err split.BadRequest) = refl
+split_back (Err (split.Refused NotTriples)) = refl
+split_back (Err (split.Refused TooMany)) = refl
+split_back (Err (split.Refused (OutOfRange i))) = refl
+split_back (Err (split.Refused (NotRising i))) = refl
+split_back (Err (split.Refused (OddLine i))) = refl
+split_back (Err split.LowNoRoom) = refl
+split_back (Err split.HighNoRoom) = refl
 
 pub split_once : (r s : Halved) → split_values r ≡ split_values s → r ≡ s
 split_once r s e = sym (split_back r) ∙ ap split_by e ∙ split_back s

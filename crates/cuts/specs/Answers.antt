@@ -1,25 +1,29 @@
 -- Section and split (document 01, "What can be asked" and "Why a call comes back").
 --   asked                                   the first refusal, 9: an axis that is none of the three, or a number out of range
+--   Sectioned                               what a section answers
 --   section_values, section_says              document 01's values of each answer of a section; what an answer and the contents at exit come to
 --   section_pairs                            the pairs of a section
 --   section_outcome, SectionPromise          what a section comes to, and its promise
 --   Halves                                  what the two results of a split hold
+--   Halved, counts                          what a split answers; how many vertices the halves have
 --   split_values, split_says                  document 01's values of each answer of a split; what an answer and the contents at exit come to
 --   lower_list, upper_list, placed_halves      the lists of the halves, and two lists placed in two results where both fit
 --   split_outcome, SplitPromise              what a split comes to, and its promise
-use Rattle.std.specs.Prelude.{◌≡◌, Bool, cond, List, ℕ, ℤ, length}
+use Rattle.std.specs.Prelude.{◌≡◌, Bool, cond, List, ℕ, ℤ, length, Result, Ok, Err}
 use Rattle.std.proofs.Math.Option.{Option}
-use Rattle.meaning.specs.Numbers.{Axis, Corner, Pair, is_code, is_number}
+use Rattle.meaning.specs.Numbers.{Axis, Pair, is_code, is_number}
+use Rattle.meaning.specs.declared.Corner.{Corner}
 use Rattle.meaning.specs.Lists.{vertices, numbers, permitted}
 use Rattle.meaning.specs.Verdicts.{verdict}
 use Rattle.meaning.specs.OneList.{one_list, one_pairs}
 use Rattle.meaning.specs.Operations.{axis_of, section_at, lower_half, upper_half, pair_numbers}
 use Rattle.meaning.specs.Outcomes.{Values, Outcome, outcome, Nothing, nothing, done, done_both, refused, bad_number, no_room, no_room_for, kept, named, checked}
 use Rattle.meaning.specs.Outcomes.{per_vertex, per_pair, fits, front, placed}
-use Rattle.cuts.specs.declared.Sectioned.{Sectioned}
-use Rattle.cuts.specs.declared.Sectioned.TheVariants as section
-use Rattle.cuts.specs.declared.Halved.{Halved}
-use Rattle.cuts.specs.declared.Halved.TheVariants as split
+use Rattle.parts.specs.declared.Halves.{Halves as Counts}
+use Rattle.cuts.specs.declared.SectionError.{SectionError}
+use Rattle.cuts.specs.declared.SectionError.TheVariants as section
+use Rattle.cuts.specs.declared.SplitError.{SplitError}
+use Rattle.cuts.specs.declared.SplitError.TheVariants as split
 
 -- what follows for the axis with that number, where the code or number that is asked is in range
 abbrev pub asked : {A : Type 0} → Option Axis → Bool → A → (Axis → A) → A
@@ -27,11 +31,15 @@ asked axis in_range bad next = named axis bad (λ a. cond in_range (next a) bad)
 
 -- ---- section
 
+-- how many pairs, or why there are none
+abbrev pub Sectioned : Type 0
+Sectioned = Result ℕ SectionError
+
 abbrev pub section_values : Sectioned → Values
-section_values (section.Done n) = done n
-section_values section.BadRequest = bad_number
-section_values (section.Refused v) = refused 1 v
-section_values section.NoRoom = no_room
+section_values (Ok n) = done n
+section_values (Err section.BadRequest) = bad_number
+section_values (Err (section.Refused r)) = refused 1 (Err r)
+section_values (Err section.NoRoom) = no_room
 
 abbrev pub section_says : Sectioned → List ℤ → Outcome Nothing (List ℤ)
 section_says r after = outcome (section_values r) nothing after
@@ -57,13 +65,20 @@ pub record Halves : Type 0 where
 abbrev pub halves : List ℤ → List ℤ → Halves
 halves low high = record { low = low; high = high }
 
+-- how many vertices each half has, or why there are none
+abbrev pub Halved : Type 0
+Halved = Result Counts SplitError
+
+abbrev pub counts : ℕ → ℕ → Counts
+counts lower upper = record { lower = lower; upper = upper }
+
 -- 6 names the half that does not fit
 abbrev pub split_values : Halved → Values
-split_values (split.Done m n) = done_both m n
-split_values split.BadRequest = bad_number
-split_values (split.Refused v) = refused 1 v
-split_values split.LowNoRoom = no_room_for 1
-split_values split.HighNoRoom = no_room_for 2
+split_values (Ok c) = done_both c.lower c.upper
+split_values (Err split.BadRequest) = bad_number
+split_values (Err (split.Refused r)) = refused 1 (Err r)
+split_values (Err split.LowNoRoom) = no_room_for 1
+split_values (Err split.HighNoRoom) = no_room_for 2
 
 abbrev pub split_says : Halved → List ℤ → List ℤ → Outcome Nothing Halves
 split_says r low high = outcome (split_values r) nothing (halves low high)

@@ -4,6 +4,8 @@
 ghost use Rattle.std.specs.Prelude.{◌≡◌, ◌+◌, ◌%◌, ◌≤◌, ◌<◌, length};
 ghost use Rattle.frames.specs.Frames.{digit_value, four_at, line_at, one_at, three_at, digit_of};
 
+use meaning::NUMBERS;
+
 // The digit 0, with which every tag begins, and the last of the figures.
 pub const ZERO: u8 = b'0';
 
@@ -27,9 +29,6 @@ const BASE: u16 = 16;
 
 // The digits of a number.
 pub const DIGITS: usize = 4;
-
-// The numbers of a vertex or a wish.
-pub const NUMBERS: usize = 3;
 
 // The bytes of a tag, where the three numbers of a line begin, and the bytes of a line beside its digits: the tag and the 0A.
 const TAG: usize = 2;

@@ -15,7 +15,9 @@ use Prim.Native.Nat.{ℕ, ◌*◌}
 use native.Mathlib.Omega.{arith}
 use lib.IntN.{ℤ}
 use lib.ListN.{length, take, drop}
-use Rattle.meaning.specs.Numbers.{Cell, Corner}
+use Rattle.std.specs.Prelude.{Ok, Err}
+use Rattle.meaning.specs.declared.Cell.{Cell}
+use Rattle.meaning.specs.declared.Corner.{Corner}
 use Rattle.meaning.specs.Lists.{vertices, numbers, permitted}
 use Rattle.meaning.specs.OneList.{WithinCodes}
 use Rattle.meaning.specs.Made.{MapOf}
@@ -27,9 +29,8 @@ use Rattle.meaning.proofs.Making.{join_within}
 use Rattle.meaning.proofs.Checked.{passes_valid}
 use Rattle.meaning.proofs.Outcomes.{placed_fits, placed_short}
 use Rattle.meaning.proofs.Made.{length_numbers, Stands, placed_stands, stands_behind, front_map, front_count}
-use Rattle.joins.specs.Join.{join_values, join_says, joined_by, join_outcome, JoinMade}
-use Rattle.joins.specs.declared.Joining.{Joining}
-use Rattle.joins.specs.declared.Joining.TheVariants.{Done, NoRoom}
+use Rattle.joins.specs.Join.{Joining, join_values, join_says, joined_by, join_outcome, JoinMade}
+use Rattle.joins.specs.declared.JoinError.TheVariants.{NoRoom}
 use Rattle.joins.proofs.Answers.{by_first, by_second, by_list, join_settled}
 
 -- ---- what is said
@@ -86,20 +87,20 @@ module _ (op : ℕ) (a b before : List ℤ) where
         join_within q.by (permitted (vertices a)) (permitted (vertices b)) (valid_within (vertices a) (passes_valid a q.first))
         (valid_within (vertices b) (passes_valid b q.second))
 
-    join_fits : fits per_vertex made (length before) ≡ true → join_outcome op a b before ≡ join_says (Done (length made)) (front (numbers made) before)
+    join_fits : fits per_vertex made (length before) ≡ true → join_outcome op a b before ≡ join_says (Ok (length made)) (front (numbers made) before)
     join_fits e = is_placed ∙ placed_fits per_vertex numbers made before e
 
-    join_unfit : fits per_vertex made (length before) ≡ false → join_outcome op a b before ≡ join_says NoRoom before
+    join_unfit : fits per_vertex made (length before) ≡ false → join_outcome op a b before ≡ join_says (Err NoRoom) before
     join_unfit e = is_placed ∙ placed_short per_vertex numbers made before e
 
     pub join_answer : (r : Joining) (after : List ℤ) → JoinMade op a b before r after
-        → r ≡ cond (fits per_vertex made (length before)) (Done (length made)) NoRoom
+        → r ≡ cond (fits per_vertex made (length before)) (Ok (length made)) (Err NoRoom)
     unfolding JoinMade
     join_answer r after h = go (fits per_vertex made (length before)) refl
       where
-        go : (t : Bool) → fits per_vertex made (length before) ≡ t → r ≡ cond t (Done (length made)) NoRoom
-        go true e = (join_settled op a b before r (Done (length made)) after (front (numbers made) before) h (sym (join_fits e))).0
-        go false e = (join_settled op a b before r NoRoom after before h (sym (join_unfit e))).0
+        go : (t : Bool) → fits per_vertex made (length before) ≡ t → r ≡ cond t (Ok (length made)) (Err NoRoom)
+        go true e = (join_settled op a b before r (Ok (length made)) after (front (numbers made) before) h (sym (join_fits e))).0
+        go false e = (join_settled op a b before r (Err NoRoom) after before h (sym (join_unfit e))).0
 
     -- from where the one list stands to what it means
     made_cells : (n : ℕ) (after : List ℤ) → Stands per_vertex numbers made before n after → Made op a b before n after
@@ -111,18 +112,18 @@ module _ (op : ℕ) (a b before : List ℤ) where
           behind = stands_behind per_vertex numbers length_numbers made before n after s;
         }
 
-  pub join_cells : (n : ℕ) (after : List ℤ) → JoinMade op a b before (Done n) after → Made op a b before n after
+  pub join_cells : (n : ℕ) (after : List ℤ) → JoinMade op a b before (Ok n) after → Made op a b before n after
   unfolding JoinMade
   join_cells n after h =
-      let q = asked_by (Done n) after refl (λ e. omega arith) h in
+      let q = asked_by (Ok n) after refl (λ e. omega arith) h in
       made_cells q n after (placed_stands per_vertex numbers (joined_list q.by a b) before n after (h ∙ is_placed q))
 
-  pub join_short : (after : List ℤ) → JoinMade op a b before NoRoom after → NotMade op a b before after
+  pub join_short : (after : List ℤ) → JoinMade op a b before (Err NoRoom) after → NotMade op a b before after
   unfolding JoinMade
   join_short after h = go (fits per_vertex (joined_list q.by a b) (length before)) refl
     where
       q : Asked op a b
-      q = asked_by NoRoom after refl (λ e. omega arith) h
+      q = asked_by (Err NoRoom) after refl (λ e. omega arith) h
 
       go : (t : Bool) → fits per_vertex (joined_list q.by a b) (length before) ≡ t → NotMade op a b before after
       go true e = absurd (omega (arith, ap (λ o. o.values.number) (h ∙ join_fits q e)))

@@ -14,7 +14,9 @@ use native.Mathlib.Omega.{arith}
 use borrow.Author.Tests.{ltb-true, lt-ltb}
 use lib.Dec.{ltb}
 use lib.Signed.{le_z}
-use Rattle.meaning.specs.Numbers.{Axis, focus, first, second, Cell, Corner, cell, code_on, number_on, square_of, pair_of}
+use Rattle.meaning.specs.Numbers.{Axis, focus, first, second, cell, code_on, number_on, square_of, pair_of}
+use Rattle.meaning.specs.declared.Cell.{Cell}
+use Rattle.meaning.specs.declared.Corner.{Corner}
 use Rattle.meaning.specs.Numbers.{is_code, is_cell, is_corner, lowest, number, steps}
 use Rattle.meaning.specs.Counting.{All}
 use Rattle.meaning.specs.Lists.{at_or_below, permitted, Rising}

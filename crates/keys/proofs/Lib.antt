@@ -2,3 +2,4 @@
 pub mod Corners
 pub mod Pairs
 pub mod Filling
+pub mod Stated

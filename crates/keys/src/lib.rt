@@ -12,6 +12,7 @@ ghost use Rattle.keys.specs.Parts.{KeyOk, PairOk, pair_of_key, axis_at, part_on}
 ghost use Rattle.keys.specs.Spelled.{Writes, Spells};
 
 use codes::{LINE, LOWEST, PLANE};
+use meaning::NUMBERS;
 
 // The axes by their numbers.
 pub const FOCUS: u32 = 0;
@@ -20,13 +21,11 @@ pub const FIRST_SHIFT: u32 = 1;
 
 pub const SECOND_SHIFT: u32 = 2;
 
-// The numbers of a vertex.
-const NUMBERS: usize = 3;
-
 // The numbers of a pair.
 const PAIR: usize = 2;
 
-// How many steps above the lowest a key's corner lies on an axis.
+// How many steps above the lowest a key's corner lies on an axis. The axis is a number, and no enum: the wrong program cuts/bad_axis_let_through must
+// be able to hand on one that names none.
 pub fn part_on(key: u32, axis: u32) -> u32
     ensures { result ≡ part_on (axis_at axis) key }
 {
@@ -101,7 +100,8 @@ fn write_each<const WIDTH: usize, F: Fn(u32, &mut [i16])>(
     }
 }
 
-// Writes the vertices of some keys, three numbers each, to the front of out.
+// Writes the vertices of some keys, three numbers each, to the front of out. That they are keys of corners is asked here and is no invariant of a type:
+// keys stand in lent room that is written anew from step to step.
 pub fn write(keys: &[u32], out: &mut [i16])
     requires all { All KeyOk keys.now }
     requires keys_in_bounds { 3 * length keys.now ≤ length out.old }

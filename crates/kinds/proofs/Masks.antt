@@ -10,7 +10,8 @@ use Prim.Native.Nat.{ℕ, suc, ◌+◌, ◌*◌, ◌/◌, ◌^◌, ◌<◌}
 use native.Mathlib.Omega.{arith}
 use lib.Count.{ones, ones_step}
 use lib.ListN.{length}
-use Rattle.meaning.specs.Numbers.{Cell, Corner}
+use Rattle.meaning.specs.declared.Cell.{Cell}
+use Rattle.meaning.specs.declared.Corner.{Corner}
 use Rattle.meaning.specs.Counting.{count, odd}
 use Rattle.meaning.specs.Lists.{surrounding, how_many, listed, weigh, mask}
 

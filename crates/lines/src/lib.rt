@@ -22,7 +22,7 @@ const SMALL: usize = 256;
 const LARGE: usize = 2 * MOST_VERTICES;
 // A search of a table gives up after so many slots.
 const TRIES: usize = 16;
-// What is answered where a key did not get into the table.
+// What is answered where a key did not get into the table: a plain no, since nothing goes with it.
 const GAVE_UP: bool = false;
 // An odd number without a pattern, by which keys are spread over the slots.
 const SPREAD: u32 = 0xC2B2_AE35;

@@ -14,9 +14,8 @@ use lib.IntN.{ℤ}
 use lib.ListN.{length}
 use Rattle.meaning.specs.Counting.{first}
 use Rattle.meaning.specs.Lists.{vertices, most_vertices}
-use Rattle.meaning.specs.Verdicts.{outside_at, falls_at, on_odd_line_at, verdict}
+use Rattle.meaning.specs.Verdicts.{Verdict, outside_at, falls_at, on_odd_line_at, verdict}
 use Rattle.meaning.specs.Outcomes.{done, refusal, verdict_values}
-use Rattle.meaning.specs.declared.Verdict.{Verdict}
 use Rattle.lists.specs.Check.{Checked}
 use Rattle.lists.proofs.Verdicts.{checked_verdict, not_triples, too_many_lem, outside_stop, falls_stop, line_stop, all_passed}
 

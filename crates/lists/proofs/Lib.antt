@@ -4,3 +4,4 @@ pub mod Rising
 pub mod Lines
 pub mod Verdicts
 pub mod Causes
+pub mod Stated

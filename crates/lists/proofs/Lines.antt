@@ -18,7 +18,8 @@ use lib.Dec.{eqb}
 use lib.IntN.{ℤ, pos}
 use lib.ListN.{length, get_or, length-map}
 use lib.Seq.{ext_get_or}
-use Rattle.meaning.specs.Numbers.{Axis, focus, first as first_shift, second, Corner, corner, is_corner, steps}
+use Rattle.meaning.specs.Numbers.{Axis, focus, first as first_shift, second, corner, is_corner, steps}
+use Rattle.meaning.specs.declared.Corner.{Corner}
 use Rattle.meaning.specs.Counting.{count, odd, first, All}
 use Rattle.meaning.specs.Lists.{vertices, on_line, odd_line}
 use Rattle.meaning.specs.Verdicts.{at, on_odd_line_at}

@@ -4,26 +4,25 @@
 --   outside_stop, falls_stop, line_stop, all_passed     the whole verdict, by where each test fails first
 --   in_range_lem                           a list whose vertices all pass the first test is in range
 --   Sound, sound_of, verdict_of_lem        what the verdict "valid" gives; and back
---   refused_not                        a verdict of any case but the first does not pass
 --   checked_verdict, verdict_checked   the promise of the check: its answer is the verdict
 --   settled                            two answers that the promise of the check allows are equal
-use mathlib.Core.Path.{◌≡◌, refl, sym, ◌∙◌, ap, ap₂}
-use mathlib.Core.Logic.{inl, inr}
+use mathlib.Core.Path.{◌≡◌, sym, ◌∙◌, ap, ap₂}
 use mathlib.Core.Bool.{Bool, true, false, cond}
 use mathlib.Core.List.{List, [], ◌∷◌}
 use Prim.Native.Nat.{ℕ, zero, suc, ◌%◌, ◌≤◌, ◌<◌}
 use native.Mathlib.Omega.{arith}
 use borrow.Author.Tests.{eq-eqb, ne_eqb, lt-ltb, le-ltb, not-false}
-use types.Run.{OneOf}
 use lib.Dec.{ltb}
 use lib.IntN.{ℤ}
 use lib.ListN.{length}
-use Rattle.meaning.specs.Numbers.{Axis, Corner, is_corner}
+use Rattle.std.specs.Prelude.{Err}
+use Rattle.meaning.specs.Numbers.{Axis, is_corner}
+use Rattle.meaning.specs.declared.Corner.{Corner}
 use Rattle.meaning.specs.Counting.{first}
 use Rattle.meaning.specs.Lists.{vertices, below, Rising, odd_line, most_vertices, Valid as Map}
-use Rattle.meaning.specs.Verdicts.{at, outside_at, falls_at, on_odd_line_at, unless_at, verdict, verdict_of, passes}
-use Rattle.meaning.specs.declared.Verdict.{Verdict}
-use Rattle.meaning.specs.declared.Verdict.TheVariants.{Valid, NotTriples, TooMany, OutOfRange, NotRising, OddLine}
+use Rattle.meaning.specs.Verdicts.{at, outside_at, falls_at, on_odd_line_at, unless_at, Verdict, Valid, verdict, verdict_of}
+use Rattle.meaning.specs.declared.Refusal.{Refusal}
+use Rattle.meaning.specs.declared.Refusal.TheVariants.{NotTriples, TooMany, OutOfRange, NotRising, OddLine}
 use Rattle.meaning.proofs.Checked.{place_all, verdict_valid}
 use Rattle.codes.specs.Keys.{corner_at}
 use Rattle.meaning.specs.Outcomes.{nothing}
@@ -33,11 +32,11 @@ use Rattle.meaning.proofs.First.{first_facts}
 use Rattle.lists.proofs.Vertices.{at_vertices, outside_at_lem}
 
 module _ (ns : List ℤ) where
-  pub not_triples : (length ns % 3 ≡ 0 → ⊥) → NotTriples ≡ verdict ns
+  pub not_triples : (length ns % 3 ≡ 0 → ⊥) → Err NotTriples ≡ verdict ns
   unfolding verdict
   not_triples h = rw (ne_eqb (length ns % 3) 0 h)
 
-  pub too_many_lem : length ns % 3 ≡ 0 → most_vertices < length (vertices ns) → TooMany ≡ verdict ns
+  pub too_many_lem : length ns % 3 ≡ 0 → most_vertices < length (vertices ns) → Err TooMany ≡ verdict ns
   unfolding verdict
   too_many_lem h k = rw (eq-eqb (length ns % 3) 0 h, lt-ltb most_vertices (length (vertices ns)) k)
 
@@ -49,12 +48,12 @@ module _ (ns : List ℤ) where
   in_range_lem r e h i l =
       not-false (is_corner (corner_at ns i)) (sym (outside_at_lem ns i l) ∙ (first_facts (outside_at (vertices ns)) (length (vertices ns)) e).before i (omega arith))
 
-module _ (p : ℕ → Bool) (n : ℕ) (refusal : ℕ → Verdict) (next : Verdict) (r : ℕ) (e : r ≡ first p n) where
-  pub stopped : r < n → refusal r ≡ unless_at p n refusal next
-  stopped h = ap refusal e ∙ sym (ap (λ t. cond t (refusal (first p n)) next) (ap (λ k. ltb k n) (sym e) ∙ lt-ltb r n h))
+module _ (p : ℕ → Bool) (n : ℕ) (refusal : ℕ → Refusal) (next : Verdict) (r : ℕ) (e : r ≡ first p n) where
+  pub stopped : r < n → Err (refusal r) ≡ unless_at p n refusal next
+  stopped h = ap (λ k. Err (refusal k)) e ∙ sym (ap (λ t. cond t (Err (refusal (first p n))) next) (ap (λ k. ltb k n) (sym e) ∙ lt-ltb r n h))
 
   pub passed : n ≤ r → next ≡ unless_at p n refusal next
-  passed h = sym (ap (λ t. cond t (refusal (first p n)) next) (ap (λ k. ltb k n) (sym e) ∙ le-ltb r n h))
+  passed h = sym (ap (λ t. cond t (Err (refusal (first p n))) next) (ap (λ k. ltb k n) (sym e) ∙ le-ltb r n h))
 
 -- the tests one after the other, of a list of whole vertices that are not too many
 module _ (ns : List ℤ) (t : length ns % 3 ≡ 0) (few : length (vertices ns) ≤ most_vertices) where
@@ -65,21 +64,21 @@ module _ (ns : List ℤ) (t : length ns % 3 ≡ 0) (few : length (vertices ns) �
   after_order = unless_at (falls_at (vertices ns)) (length (vertices ns)) NotRising after_lines
 
   module _ (r : ℕ) (e : r ≡ first (outside_at (vertices ns)) (length (vertices ns))) where
-    pub outside_stop : r < length (vertices ns) → OutOfRange r ≡ verdict ns
+    pub outside_stop : r < length (vertices ns) → Err (OutOfRange r) ≡ verdict ns
     outside_stop h = stopped (outside_at (vertices ns)) (length (vertices ns)) OutOfRange after_order r e h ∙ counted ns t few
 
     range_passed : length (vertices ns) ≤ r → after_order ≡ verdict ns
     range_passed h = passed (outside_at (vertices ns)) (length (vertices ns)) OutOfRange after_order r e h ∙ counted ns t few
 
     module _ (hr : length (vertices ns) ≤ r) (q : ℕ) (f : q ≡ first (falls_at (vertices ns)) (length (vertices ns))) where
-      pub falls_stop : q < length (vertices ns) → NotRising q ≡ verdict ns
+      pub falls_stop : q < length (vertices ns) → Err (NotRising q) ≡ verdict ns
       falls_stop h = stopped (falls_at (vertices ns)) (length (vertices ns)) NotRising after_lines q f h ∙ range_passed hr
 
       order_passed : length (vertices ns) ≤ q → after_lines ≡ verdict ns
       order_passed h = passed (falls_at (vertices ns)) (length (vertices ns)) NotRising after_lines q f h ∙ range_passed hr
 
       module _ (hq : length (vertices ns) ≤ q) (o : ℕ) (g : o ≡ first (on_odd_line_at (vertices ns)) (length (vertices ns))) where
-        pub line_stop : o < length (vertices ns) → OddLine o ≡ verdict ns
+        pub line_stop : o < length (vertices ns) → Err (OddLine o) ≡ verdict ns
         line_stop h = stopped (on_odd_line_at (vertices ns)) (length (vertices ns)) OddLine Valid o g h ∙ order_passed hq
 
         pub all_passed : length (vertices ns) ≤ o → Valid ≡ verdict ns
@@ -117,22 +116,6 @@ sound_of ns e =
 
 pub verdict_of_lem : (ns : List ℤ) → length ns % 3 ≡ 0 → Map (vertices ns) → verdict ns ≡ Valid
 verdict_of_lem ns t m = (verdict_valid ns).1 (t, m)
-
--- a verdict whose case is none of the first does not pass
-pub refused_not : (v : Verdict) → OneOf (1 ∷ 2 ∷ 3 ∷ 4 ∷ 5 ∷ []) (denote.Enum.Declared.tag_of Rattle.meaning.specs.contracts.Verdict.the_type v) → passes v ≡ false
-refused_not Valid h = absurd (never h)
-  where
-    never : OneOf (1 ∷ 2 ∷ 3 ∷ 4 ∷ 5 ∷ []) 0 → ⊥
-    never (inl e) = omega arith
-    never (inr (inl e)) = omega arith
-    never (inr (inr (inl e))) = omega arith
-    never (inr (inr (inr (inl e)))) = omega arith
-    never (inr (inr (inr (inr e)))) = omega arith
-refused_not NotTriples h = refl
-refused_not TooMany h = refl
-refused_not (OutOfRange i) h = refl
-refused_not (NotRising i) h = refl
-refused_not (OddLine i) h = refl
 
 -- ---- the promise of the check
 

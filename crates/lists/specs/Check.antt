@@ -8,12 +8,12 @@
 --   first_on              the first vertex on an odd line of an axis, or the count of vertices
 --   pair_at, Filled       the two numbers at offsets a and b of a vertex, as one number; the first n places of a working list hold those of each vertex
 use Rattle.std.specs.Prelude.{◌≡◌, true, false, List, ℕ, ◌+◌, ◌*◌, ◌<◌, ℤ, pos, length, get_or}
-use Rattle.meaning.specs.Numbers.{Axis, focus, first as first_shift, second, Corner, is_number, is_corner, steps}
+use Rattle.meaning.specs.Numbers.{Axis, focus, first as first_shift, second, is_number, is_corner, steps}
+use Rattle.meaning.specs.declared.Corner.{Corner}
 use Rattle.meaning.specs.Counting.{first}
 use Rattle.meaning.specs.Lists.{vertices, odd_line}
-use Rattle.meaning.specs.Verdicts.{verdict, at, falls_at}
+use Rattle.meaning.specs.Verdicts.{Verdict, verdict, at, falls_at}
 use Rattle.meaning.specs.Outcomes.{Outcome, outcome, Nothing, nothing, done, verdict_values, kept, checked}
-use Rattle.meaning.specs.declared.Verdict.{Verdict}
 use Rattle.codes.specs.Keys.{corner_at}
 
 abbrev pub check_says : Verdict → Outcome Nothing Nothing

@@ -12,12 +12,14 @@ use lib.IntN.{ℤ}
 use lib.Dec.{ltb, eqb}
 use lib.ListN.{length}
 use borrow.Author.Tests.{ltb-true, ltb-false, le-ltb, eq-eqb, eqb-true}
-use Rattle.meaning.specs.Numbers.{Axis, focus, first as first_shift, second, Corner, pair_of, is_corner}
+use Rattle.meaning.specs.Numbers.{Axis, focus, first as first_shift, second, pair_of, is_corner}
+use Rattle.meaning.specs.declared.Corner.{Corner}
 use Rattle.meaning.specs.Counting.{All, first, odd, count}
 use Rattle.meaning.specs.Lists.{vertices, below, Rising, on_line, odd_line, same_pair, most_vertices, Valid}
-use Rattle.meaning.specs.Verdicts.{at, outside_at, falls_at, on_odd_line_at, unless_at, verdict_of, verdict, passes, refusal_number}
-use Rattle.meaning.specs.declared.Verdict.{Verdict}
-use Rattle.meaning.specs.declared.Verdict.TheVariants.{Valid as Passed, NotTriples, TooMany, OutOfRange, NotRising, OddLine}
+use Rattle.meaning.specs.Verdicts.{at, outside_at, falls_at, on_odd_line_at, unless_at, verdict_of, verdict, passes, refusal_number, Verdict, Valid as Passed}
+use Rattle.std.specs.Prelude.{Ok, Err}
+use Rattle.meaning.specs.declared.Refusal.{Refusal}
+use Rattle.meaning.specs.declared.Refusal.TheVariants.{NotTriples, TooMany, OutOfRange, NotRising, OddLine}
 use Rattle.meaning.proofs.Parity.{odd_count, sum_some}
 use Rattle.meaning.proofs.Integers.{not_yes}
 use Rattle.meaning.proofs.First.{first_is}
@@ -25,17 +27,20 @@ use Rattle.meaning.proofs.Solid.{plane}
 
 -- ---- what a passed test says of every place, and back
 
-unless_passed : (p : ℕ → Bool) (n : ℕ) (refusal : ℕ → Verdict) (next : Verdict) → ((i : ℕ) → refusal i ≡ Passed → ⊥) → unless_at p n refusal next ≡ Passed
+not_passed : {r : Refusal} → ◌≡◌ {A = Verdict} (Err r) Passed → ⊥
+not_passed e = false≢true (ap passes e)
+
+unless_passed : (p : ℕ → Bool) (n : ℕ) (refusal : ℕ → Refusal) (next : Verdict) → unless_at p n refusal next ≡ Passed
     → ((k : ℕ) → k < n → p k ≡ false) × (next ≡ Passed)
-unless_passed p n refusal next h e = go (ltb (first p n) n) refl e
+unless_passed p n refusal next e = go (ltb (first p n) n) refl e
   where
-    go : (t : Bool) → ltb (first p n) n ≡ t → cond t (refusal (first p n)) next ≡ Passed → ((k : ℕ) → k < n → p k ≡ false) × (next ≡ Passed)
-    go true a f = absurd (h (first p n) f)
+    go : (t : Bool) → ltb (first p n) n ≡ t → cond t (Err (refusal (first p n))) next ≡ Passed → ((k : ℕ) → k < n → p k ≡ false) × (next ≡ Passed)
+    go true a f = absurd (not_passed f)
     go false a f = (λ k l. (first_is p n).before k (omega (arith, ltb-false (first p n) n a)), f)
 
-unless_none : (p : ℕ → Bool) (n : ℕ) (refusal : ℕ → Verdict) (next : Verdict) → ((k : ℕ) → k < n → p k ≡ false) → unless_at p n refusal next ≡ next
+unless_none : (p : ℕ → Bool) (n : ℕ) (refusal : ℕ → Refusal) (next : Verdict) → ((k : ℕ) → k < n → p k ≡ false) → unless_at p n refusal next ≡ next
 unless_none p n refusal next h =
-    ap (λ t. cond t (refusal (first p n)) next)
+    ap (λ t. cond t (Err (refusal (first p n))) next)
     (not_yes (ltb (first p n) n) (λ e. let l = ltb-true (first p n) n e in true≢false (sym ((first_is p n).found l) ∙ h (first p n) l)))
 
 all_places : (Q : Corner → Type 0) (l : List Corner) → ((k : ℕ) → k < length l → Q (at l k)) → All Q l
@@ -94,14 +99,11 @@ verdict_valid ns = (λ e. whole (eqb (length ns % 3) 0) refl e, λ r. back r.0 r
     n : ℕ
     n = length (vertices ns)
 
-    number_clash : (v : Verdict) → v ≡ Passed → refusal_number v ≡ 0
-    number_clash v e = ap refusal_number e
-
     parts : n ≤ most_vertices → verdict_of l ≡ Passed → Valid l
     parts few e =
-        let a = unless_passed (outside_at l) n OutOfRange _ (λ i f. let z : ◌≡◌ {A = ℕ} 3 0 = number_clash (OutOfRange i) f in omega arith) e in
-        let b = unless_passed (falls_at l) n NotRising _ (λ i f. let z : ◌≡◌ {A = ℕ} 4 0 = number_clash (NotRising i) f in omega arith) a.1 in
-        let d = unless_passed (on_odd_line_at l) n OddLine Passed (λ i f. let z : ◌≡◌ {A = ℕ} 5 0 = number_clash (OddLine i) f in omega arith) b.1 in
+        let a = unless_passed (outside_at l) n OutOfRange _ e in
+        let b = unless_passed (falls_at l) n NotRising _ a.1 in
+        let d = unless_passed (on_odd_line_at l) n OddLine Passed b.1 in
         record {
           few = few;
           corners = all_places (λ v. is_corner v ≡ true) l (λ k p. flip (is_corner (at l k)) (a.0 k p));
@@ -109,32 +111,28 @@ verdict_valid ns = (λ e. whole (eqb (length ns % 3) 0) refl e, λ r. back r.0 r
           even = places_even l d.0;
         }
 
-    counted : (t : Bool) → ltb most_vertices n ≡ t → cond t TooMany (verdict_of l) ≡ Passed → Valid l
-    counted true q e = let z : ◌≡◌ {A = ℕ} 2 0 = number_clash TooMany e in absurd (omega arith)
+    counted : (t : Bool) → ltb most_vertices n ≡ t → cond t (Err TooMany) (verdict_of l) ≡ Passed → Valid l
+    counted true q e = absurd (not_passed e)
     counted false q e = parts (ltb-false most_vertices n q) e
 
-    whole : (t : Bool) → eqb (length ns % 3) 0 ≡ t → cond t (cond (ltb most_vertices n) TooMany (verdict_of l)) NotTriples ≡ Passed → (length ns % 3 ≡ 0) × Valid l
+    whole : (t : Bool) → eqb (length ns % 3) 0 ≡ t → cond t (cond (ltb most_vertices n) (Err TooMany) (verdict_of l)) (Err NotTriples) ≡ Passed → (length ns % 3 ≡ 0) × Valid l
     whole true q e = (eqb-true (length ns % 3) 0 q, counted (ltb most_vertices n) refl e)
-    whole false q e = let z : ◌≡◌ {A = ℕ} 1 0 = number_clash NotTriples e in absurd (omega arith)
+    whole false q e = absurd (not_passed e)
 
     none_odd : Valid l → (k : ℕ) → k < n → on_odd_line_at l k ≡ false
     none_odd h k p = ap₂ ◌||◌ (h.even focus (at l k)) (ap₂ ◌||◌ (h.even first_shift (at l k)) (h.even second (at l k)))
 
-    back : length ns % 3 ≡ 0 → Valid l → cond (eqb (length ns % 3) 0) (cond (ltb most_vertices n) TooMany (verdict_of l)) NotTriples ≡ Passed
+    back : length ns % 3 ≡ 0 → Valid l → cond (eqb (length ns % 3) 0) (cond (ltb most_vertices n) (Err TooMany) (verdict_of l)) (Err NotTriples) ≡ Passed
     back q h =
-        ap (λ t. cond t (cond (ltb most_vertices n) TooMany (verdict_of l)) NotTriples) (eq-eqb (length ns % 3) 0 q) ∙
-        ap (λ t. cond t TooMany (verdict_of l)) (le-ltb most_vertices n h.few) ∙
+        ap (λ t. cond t (cond (ltb most_vertices n) (Err TooMany) (verdict_of l)) (Err NotTriples)) (eq-eqb (length ns % 3) 0 q) ∙
+        ap (λ t. cond t (Err TooMany) (verdict_of l)) (le-ltb most_vertices n h.few) ∙
         unless_none (outside_at l) n OutOfRange _ (λ k p. ap not (place_all (λ v. is_corner v ≡ true) l h.corners k p)) ∙
         unless_none (falls_at l) n NotRising _ (rising_places l h.rising) ∙
         unless_none (on_odd_line_at l) n OddLine Passed (none_odd h)
 
 pub passed : (v : Verdict) → passes v ≡ true → v ≡ Passed
-passed Passed e = refl
-passed NotTriples e = absurd (false≢true e)
-passed TooMany e = absurd (false≢true e)
-passed (OutOfRange i) e = absurd (false≢true e)
-passed (NotRising i) e = absurd (false≢true e)
-passed (OddLine i) e = absurd (false≢true e)
+passed (Ok tt) e = refl
+passed (Err r) e = absurd (false≢true e)
 
 pub passes_valid : (ns : List ℤ) → passes (verdict ns) ≡ true → Valid (vertices ns)
 passes_valid ns e = ((verdict_valid ns).0 (passed (verdict ns) e)).1

@@ -13,7 +13,9 @@ use lib.Dec.{ltb, eqb}
 use lib.IntN.{ℤ}
 use lib.Signed.{le_z}
 use borrow.Author.Tests.{ltb-true, ltb-false, lt-ltb, eq-eqb, ne_eqb, eqb-true}
-use Rattle.meaning.specs.Numbers.{Cell, Corner, cell, corner, is_code, is_cell, is_number, lowest, last_code, last_number}
+use Rattle.meaning.specs.Numbers.{cell, corner, is_code, is_cell, is_number, lowest, last_code, last_number}
+use Rattle.meaning.specs.declared.Cell.{Cell}
+use Rattle.meaning.specs.declared.Corner.{Corner}
 use Rattle.meaning.specs.Counting.{All}
 use Rattle.meaning.specs.Lists.{below}
 use Rattle.meaning.specs.OneList.{WithinCodes}

@@ -14,11 +14,12 @@ use lib.Dec.{leb}
 use lib.IntN.{ℤ, pos, negsuc}
 use lib.ListN.{length}
 use lib.Signed.{le_z, lt_z}
-use Rattle.meaning.specs.Numbers.{Axis, focus, first, second, Cell, code_on}
+use Rattle.meaning.specs.Numbers.{Axis, focus, first, second, code_on}
+use Rattle.meaning.specs.declared.Cell.{Cell}
 use Rattle.meaning.specs.Lists.{most_vertices}
 use Rattle.meaning.specs.Verdicts.{verdict}
 use Rattle.meaning.specs.OneList.{one_list_over, one_list}
-use Rattle.meaning.specs.Operations.{between, box_cells, join, union, overlap}
+use Rattle.meaning.specs.Operations.{union, overlap, between, box_cells, join}
 use Rattle.meaning.specs.Nearest.{weight, distance}
 use Rattle.meaning.specs.Kinds.{kind}
 use Rattle.meaning.specs.Examples.{Claim, verdict_is, even_lines, odd_lines, permits, forbids, nearest_gets, apart, taken, has, lacks}

@@ -11,7 +11,9 @@ use mathlib.Core.Bool.{Bool, true, false, ◌&&◌, and-false}
 use mathlib.Core.List.{List, [], ◌∷◌}
 use lib.IntN.{ℤ, suc_ℤ, pred_ℤ, suc-pred}
 use lib.Signed.{lt_z}
-use Rattle.meaning.specs.Numbers.{Axis, focus, first, second, Cell, Corner, code_on, number_on, is_number}
+use Rattle.meaning.specs.Numbers.{Axis, focus, first, second, code_on, number_on, is_number}
+use Rattle.meaning.specs.declared.Cell.{Cell}
+use Rattle.meaning.specs.declared.Corner.{Corner}
 use Rattle.meaning.specs.Counting.{keep, sum, All}
 use Rattle.meaning.specs.Lists.{same, beside, cell_by, surrounding, listed}
 use Rattle.meaning.specs.OneList.{corner_numbers, pairs_over, corners_over, one_list_over, one_list}

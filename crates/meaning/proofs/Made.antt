@@ -17,7 +17,9 @@ use lib.Dec.{leb}
 use lib.IntN.{ℤ}
 use lib.ListN.{length, take, drop}
 use lib.Seq.{take_at, drop-append_seam}
-use Rattle.meaning.specs.Numbers.{Cell, Corner, Square, Pair}
+use Rattle.meaning.specs.Numbers.{Square, Pair}
+use Rattle.meaning.specs.declared.Cell.{Cell}
+use Rattle.meaning.specs.declared.Corner.{Corner}
 use Rattle.meaning.specs.Lists.{vertices, numbers, listed, most_vertices}
 use Rattle.meaning.specs.OneList.{one_list, one_pairs, WithinCodes, SquaresWithin}
 use Rattle.meaning.specs.Made.{MapOf, pairs, permitted_square, pair_at_or_below, RisingPairs, PairsOf}

@@ -13,7 +13,9 @@ use mathlib.Core.Bool.{Bool, true, false, not, ◌&&◌, ◌||◌, cond, and-fal
 use mathlib.Core.List.{List, ◌++◌, map}
 use lib.IntN.{ℤ}
 use lib.Signed.{le_z, lt_z}
-use Rattle.meaning.specs.Numbers.{Axis, focus, first, second, Cell, Corner, Square, Pair, corner, code_on, number_on, square_of, pair_of, across, upright, is_code, is_cell, is_corner}
+use Rattle.meaning.specs.Numbers.{Axis, focus, first, second, Square, Pair, corner, code_on, number_on, square_of, pair_of, across, upright, is_code, is_cell, is_corner}
+use Rattle.meaning.specs.declared.Cell.{Cell}
+use Rattle.meaning.specs.declared.Corner.{Corner}
 use Rattle.meaning.specs.Counting.{keep, All}
 use Rattle.meaning.specs.Lists.{at_or_below, permitted}
 use Rattle.meaning.specs.OneList.{one_pairs, each, WithinCodes, SquaresWithin}

@@ -16,7 +16,9 @@ use Prim.Native.Nat.{◌≤◌}
 use lib.IntN.{pos}
 use lib.Signed.{le_z}
 use lib.ListN.{length}
-use Rattle.meaning.specs.Numbers.{Axis, focus, first, second, Cell, Corner, code_on, number_on, square_of, pair_of, across, upright, is_code, is_number, is_cell, is_corner, lowest, last_code, last_number}
+use Rattle.meaning.specs.Numbers.{Axis, focus, first, second, code_on, number_on, square_of, pair_of, across, upright, is_code, is_number, is_cell, is_corner, lowest, last_code, last_number}
+use Rattle.meaning.specs.declared.Cell.{Cell}
+use Rattle.meaning.specs.declared.Corner.{Corner}
 use Rattle.meaning.specs.Counting.{All}
 use Rattle.meaning.specs.Lists.{at_or_below, permitted, listed, surrounding, Rising, on_line, odd_line, same_pair, most_vertices, Valid}
 use Rattle.meaning.specs.OneList.{one_list, WithinCodes}

@@ -16,7 +16,9 @@ use borrow.Author.Tests.{ltb-true, ltb-false}
 use lib.Dec.{ltb}
 use lib.IntN.{ℤ, pos, negsuc, suc_ℤ, pred_ℤ, pred-suc, sub_ℕ, nat_abs}
 use lib.Signed.{le_z, lt_z}
-use Rattle.meaning.specs.Numbers.{Axis, focus, first, second, Cell, Corner, Square, code_on, number_on, square_of, pair_of, across, lowest, last_number, is_number, is_corner}
+use Rattle.meaning.specs.Numbers.{Axis, focus, first, second, Square, code_on, number_on, square_of, pair_of, across, lowest, last_number, is_number, is_corner}
+use Rattle.meaning.specs.declared.Cell.{Cell}
+use Rattle.meaning.specs.declared.Corner.{Corner}
 use Rattle.meaning.specs.Counting.{◌⊕◌, sum, All}
 use Rattle.meaning.specs.Lists.{at_or_below, permitted, Valid}
 use Rattle.meaning.specs.Nearest.{gap, weight, distance, Nearest}

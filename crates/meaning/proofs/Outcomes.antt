@@ -12,9 +12,9 @@ use mathlib.Core.List.{List}
 use Prim.Native.Nat.{ℕ, zero, suc}
 use lib.IntN.{ℤ}
 use lib.ListN.{length}
-use Rattle.meaning.specs.Verdicts.{passes, refusal_number, refusal_place}
-use Rattle.meaning.specs.declared.Verdict.{Verdict}
-use Rattle.meaning.specs.declared.Verdict.TheVariants.{Valid, NotTriples, TooMany, OutOfRange, NotRising, OddLine}
+use Rattle.std.specs.Prelude.{Ok, Err}
+use Rattle.meaning.specs.Verdicts.{Verdict, Valid, passes, refusal_number, refusal_place}
+use Rattle.meaning.specs.declared.Refusal.TheVariants.{NotTriples, TooMany, OutOfRange, NotRising, OddLine}
 use Rattle.meaning.specs.Outcomes.{Values, done, refused, refusal, verdict_values, outcome, nothing, kept, checked, fits, front, placed, no_room}
 
 -- ---- the values tell verdicts apart
@@ -22,19 +22,19 @@ use Rattle.meaning.specs.Outcomes.{Values, done, refused, refusal, verdict_value
 -- the verdict with this number and place
 abbrev pub verdict_by : ℕ → ℕ → Verdict
 verdict_by zero place = Valid
-verdict_by (suc zero) place = NotTriples
-verdict_by (suc (suc zero)) place = TooMany
-verdict_by (suc (suc (suc zero))) place = OutOfRange place
-verdict_by (suc (suc (suc (suc zero)))) place = NotRising place
-verdict_by (suc (suc (suc (suc (suc n))))) place = OddLine place
+verdict_by (suc zero) place = Err NotTriples
+verdict_by (suc (suc zero)) place = Err TooMany
+verdict_by (suc (suc (suc zero))) place = Err (OutOfRange place)
+verdict_by (suc (suc (suc (suc zero)))) place = Err (NotRising place)
+verdict_by (suc (suc (suc (suc (suc n))))) place = Err (OddLine place)
 
 pub verdict_back : (v : Verdict) → verdict_by (refusal_number v) (refusal_place v) ≡ v
-verdict_back Valid = refl
-verdict_back NotTriples = refl
-verdict_back TooMany = refl
-verdict_back (OutOfRange i) = refl
-verdict_back (NotRising i) = refl
-verdict_back (OddLine i) = refl
+verdict_back (Ok tt) = refl
+verdict_back (Err NotTriples) = refl
+verdict_back (Err TooMany) = refl
+verdict_back (Err (OutOfRange i)) = refl
+verdict_back (Err (NotRising i)) = refl
+verdict_back (Err (OddLine i)) = refl
 
 abbrev verdict_in : Values → Verdict
 verdict_in s = verdict_by s.number s.place
@@ -43,20 +43,20 @@ pub refused_once : (operand operand' : ℕ) (v w : Verdict) → refused operand 
 refused_once operand operand' v w e = sym (verdict_back v) ∙ ap verdict_in e ∙ verdict_back w
 
 values_back : (v : Verdict) → verdict_in (verdict_values v) ≡ v
-values_back Valid = refl
-values_back NotTriples = refl
-values_back TooMany = refl
-values_back (OutOfRange i) = refl
-values_back (NotRising i) = refl
-values_back (OddLine i) = refl
+values_back (Ok tt) = refl
+values_back (Err NotTriples) = refl
+values_back (Err TooMany) = refl
+values_back (Err (OutOfRange i)) = refl
+values_back (Err (NotRising i)) = refl
+values_back (Err (OddLine i)) = refl
 
 pub verdict_once : (v w : Verdict) → verdict_values v ≡ verdict_values w → v ≡ w
 verdict_once v w e = sym (values_back v) ∙ ap verdict_in e ∙ values_back w
 
 -- document 01's table, of the list that is this operand: numbers 1 to 5, with a vertex as the place of 3, 4 and 5
-pub refused_numbers : (operand i : ℕ) → (refused operand NotTriples ≡ refusal 1 operand 0) × (refused operand TooMany ≡ refusal 2 operand 0) ×
-    (refused operand (OutOfRange i) ≡ refusal 3 operand i) × (refused operand (NotRising i) ≡ refusal 4 operand i) ×
-    (refused operand (OddLine i) ≡ refusal 5 operand i)
+pub refused_numbers : (operand i : ℕ) → (refused operand (Err NotTriples) ≡ refusal 1 operand 0) × (refused operand (Err TooMany) ≡ refusal 2 operand 0) ×
+    (refused operand (Err (OutOfRange i)) ≡ refusal 3 operand i) × (refused operand (Err (NotRising i)) ≡ refusal 4 operand i) ×
+    (refused operand (Err (OddLine i)) ≡ refusal 5 operand i)
 refused_numbers operand i = (refl, refl, refl, refl, refl)
 
 -- ---- the order of refusals
@@ -70,12 +70,12 @@ module _ {A : Type 0} (operand : ℕ) (v : Verdict) (refusing : Values → A) (n
 
 module _ {Given Left : Type 0} (given : Given) (left : Left) where
   pub checked_values : (v : Verdict) → checked 1 v (kept given left) (outcome (done 0) given left) ≡ outcome (verdict_values v) given left
-  checked_values Valid = refl
-  checked_values NotTriples = refl
-  checked_values TooMany = refl
-  checked_values (OutOfRange i) = refl
-  checked_values (NotRising i) = refl
-  checked_values (OddLine i) = refl
+  checked_values (Ok tt) = refl
+  checked_values (Err NotTriples) = refl
+  checked_values (Err TooMany) = refl
+  checked_values (Err (OutOfRange i)) = refl
+  checked_values (Err (NotRising i)) = refl
+  checked_values (Err (OddLine i)) = refl
 
 -- ---- lists in results
 

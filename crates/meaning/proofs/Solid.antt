@@ -10,7 +10,9 @@ use mathlib.Core.Bool.{Bool, true, false, not, ◌&&◌, ◌||◌, cond, and-tru
 use mathlib.Core.List.{List, [], ◌∷◌}
 use lib.IntN.{ℤ}
 use lib.Signed.{le_z, lt_z}
-use Rattle.meaning.specs.Numbers.{Axis, focus, first, second, Cell, Corner, Square, Pair, square, pair, code_on, number_on, square_of, pair_of, across, upright}
+use Rattle.meaning.specs.Numbers.{Axis, focus, first, second, Square, Pair, square, pair, code_on, number_on, square_of, pair_of, across, upright}
+use Rattle.meaning.specs.declared.Cell.{Cell}
+use Rattle.meaning.specs.declared.Corner.{Corner}
 use Rattle.meaning.specs.Counting.{keep}
 use Rattle.meaning.specs.Lists.{at_or_below, permitted, surrounding, listed, below, Rising, same}
 use Rattle.meaning.specs.OneList.{one_list, one_pairs, listed_pair, around}

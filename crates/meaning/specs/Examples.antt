@@ -2,7 +2,9 @@
 --   Claim, true_of    what an example says, and the test of it
 --   Example, table    the examples by document 01's numbers
 use Rattle.std.specs.Prelude.{Bool, not, ◌&&◌, ◌||◌, List, [], ◌∷◌, ◌++◌, ℕ, ℤ, pos, negsuc, eqb, length}
-use Rattle.meaning.specs.Numbers.{Axis, focus, first, second, Cell, Corner, cell, corner}
+use Rattle.meaning.specs.Numbers.{Axis, focus, first, second, cell, corner}
+use Rattle.meaning.specs.declared.Cell.{Cell}
+use Rattle.meaning.specs.declared.Corner.{Corner}
 use Rattle.meaning.specs.Counting.{count}
 use Rattle.meaning.specs.Lists.{vertices, numbers, permitted, listed, how_many, mask, odd_line}
 use Rattle.meaning.specs.Verdicts.{verdict, refusal_number, refusal_place}

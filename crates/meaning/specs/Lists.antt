@@ -12,7 +12,9 @@
 use Rattle.std.specs.Prelude.{◌≡◌, Bool, true, false, ◌&&◌, ◌||◌, cond, List, [], ◌∷◌, map, ℕ, ◌+◌, ◌*◌, ◌≤◌, ℤ, length}
 use Rattle.std.proofs.Math.IntN.{pred_ℤ}
 use Rattle.std.specs.Int.Signed.{le_z, lt_z}
-use Rattle.meaning.specs.Numbers.{Axis, Cell, Corner, Pair, cell, corner, is_corner, pair_of}
+use Rattle.meaning.specs.Numbers.{Axis, Pair, cell, corner, is_corner, pair_of}
+use Rattle.meaning.specs.declared.Cell.{Cell}
+use Rattle.meaning.specs.declared.Corner.{Corner}
 use Rattle.meaning.specs.Counting.{count, odd, All}
 
 abbrev pub vertices : List ℤ → List Corner

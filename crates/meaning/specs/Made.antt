@@ -9,7 +9,9 @@
 use Rattle.std.specs.Prelude.{◌≡◌, ◌↔◌, Bool, true, ◌&&◌, ◌||◌, ℤ}
 use mathlib.Core.List.{List, [], ◌∷◌, Memᴰ}
 use Rattle.std.specs.Int.Signed.{le_z, lt_z}
-use Rattle.meaning.specs.Numbers.{Cell, Corner, Square, Pair, pair}
+use Rattle.meaning.specs.Numbers.{Square, Pair, pair}
+use Rattle.meaning.specs.declared.Cell.{Cell}
+use Rattle.meaning.specs.declared.Corner.{Corner}
 use Rattle.meaning.specs.Counting.{count, odd}
 use Rattle.meaning.specs.Lists.{permitted, listed, same, Valid}
 use Rattle.meaning.specs.OneList.{listed_pair}

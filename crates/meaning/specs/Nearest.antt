@@ -2,13 +2,16 @@
 --   gap, weight, distance   a difference without sign; what one code of an axis counts; the sum over the three axes
 --   lower                   lowest focus, then first shift, then second
 --   Nearest                 permitted; no permitted cell nearer; among equals none lower
---   Reached, nowhere        what nearest gives: a cell and how far it is; what a refused nearest gives
+--   reached, nowhere        what nearest gives (Reached of src/lib.rt): a cell and how far it is; what a refused nearest gives
 --   IsNearest               the nearest cell of a map, if it permits any
 --   nearest_outcome          what nearest comes to: 1 to 5; then 7 of the empty list; else the cell, which is the nearest, and its distance
 use Rattle.std.specs.Prelude.{◌≡◌, Bool, true, false, List, [], ◌∷◌, ℕ, ◌+◌, ◌*◌, ◌≤◌, ℤ, pos, ◌-ℤ◌, nat_abs}
-use Rattle.meaning.specs.Numbers.{Axis, focus, first, second, Cell, Corner, cell, code_on}
+use Rattle.meaning.specs.Numbers.{Axis, focus, first, second, cell, code_on}
+use Rattle.meaning.specs.declared.Cell.{Cell}
+use Rattle.meaning.specs.declared.Corner.{Corner}
 use Rattle.meaning.specs.Lists.{vertices, permitted, earlier}
 use Rattle.meaning.specs.Verdicts.{verdict, passes}
+use Rattle.meaning.specs.declared.Reached.{Reached}
 use Rattle.meaning.specs.Outcomes.{Outcome, outcome, Nothing, nothing, done, empty_map, kept, checked}
 
 abbrev pub gap : ℤ → ℤ → ℕ
@@ -35,10 +38,6 @@ pub record Nearest (S : Cell → Bool) (w c : Cell) : Type 0 where
   pub lowest : (d : Cell) → S d ≡ true → distance w d ≡ distance w c → lower d c ≡ false
 
 -- ---- what nearest comes to
-
-pub record Reached : Type 0 where
-  pub at : Cell
-  pub far : ℕ
 
 abbrev pub reached : Cell → ℕ → Reached
 reached c n = record { at = c; far = n }

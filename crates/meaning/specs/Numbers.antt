@@ -2,7 +2,8 @@
 --   lowest, last_code, last_number   -512, 511, 512
 --   is_code, is_number               -512 to 511; -512 to 512
 --   Axis                           focus, first shift, second shift
---   Cell, Corner                   triples of codes and of corner numbers: two types, so that they cannot be mixed
+--   cell, corner                   triples of codes and of corner numbers: two types (Cell and Corner of src/lib.rt), so that they cannot be mixed;
+--                                  a cell is the unit cube from code to code + 1 on each axis
 --   code_on, number_on               a cell's code and a corner's number on an axis
 --   is_cell, is_corner               all three are codes; all three are corner numbers
 --   Square, Pair                   what is left of a cell and of a corner when one axis is left out
@@ -10,6 +11,8 @@
 use Rattle.std.specs.Prelude.{Bool, ◌&&◌, ℕ, ◌+◌, ◌-◌, ℤ, pos, negsuc}
 use Rattle.std.proofs.Math.IntN.{sub_ℕ}
 use Rattle.std.specs.Int.Signed.{le_z}
+use Rattle.meaning.specs.declared.Cell.{Cell}
+use Rattle.meaning.specs.declared.Corner.{Corner}
 
 abbrev pub lowest : ℤ
 lowest = negsuc 511
@@ -28,17 +31,6 @@ is_number z = le_z lowest z && le_z z last_number
 
 pub data Axis : Type 0 where
   focus first second : Axis
-
--- the unit cube from code to code + 1 on each axis
-pub record Cell : Type 0 where
-  pub focus : ℤ
-  pub first : ℤ
-  pub second : ℤ
-
-pub record Corner : Type 0 where
-  pub focus : ℤ
-  pub first : ℤ
-  pub second : ℤ
 
 abbrev pub cell : ℤ → ℤ → ℤ → Cell
 cell x y z = record { focus = x; first = y; second = z }

@@ -7,7 +7,9 @@
 --   one_pairs_over, one_pairs          of a set of squares: every pair, in order, round which an odd number of squares is in the set
 -- The lists over all corner numbers are never computed: small examples take few numbers.
 use Rattle.std.specs.Prelude.{◌≡◌, Bool, true, false, ◌&&◌, List, [], ◌∷◌, ◌++◌, map, ℤ}
-use Rattle.meaning.specs.Numbers.{Cell, Corner, Square, Pair, corner, square, pair, number, is_code, is_cell}
+use Rattle.meaning.specs.Numbers.{Square, Pair, corner, square, pair, number, is_code, is_cell}
+use Rattle.meaning.specs.declared.Cell.{Cell}
+use Rattle.meaning.specs.declared.Corner.{Corner}
 use Rattle.meaning.specs.Counting.{count, odd, keep, upto}
 use Rattle.meaning.specs.Lists.{beside, listed}
 

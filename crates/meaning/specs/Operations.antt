@@ -10,7 +10,9 @@
 use Rattle.std.specs.Prelude.{Bool, not, ◌&&◌, ◌||◌, cond, List, [], ◌∷◌, ℕ, ℤ, eqb}
 use Rattle.std.proofs.Math.Option.{Option, none, some}
 use Rattle.std.specs.Int.Signed.{le_z, lt_z}
-use Rattle.meaning.specs.Numbers.{Axis, focus, first, second, Cell, Corner, Square, Pair, code_on, across}
+use Rattle.meaning.specs.Numbers.{Axis, focus, first, second, Square, Pair, code_on, across}
+use Rattle.meaning.specs.declared.Cell.{Cell}
+use Rattle.meaning.specs.declared.Corner.{Corner}
 use Rattle.meaning.specs.Lists.{vertices, permitted}
 use Rattle.meaning.specs.OneList.{one_list}
 

@@ -16,8 +16,7 @@
 use Rattle.std.specs.Prelude.{Bool, ◌&&◌, cond, List, ◌++◌, ℕ, ◌*◌, leb, ℤ, length, drop}
 use Rattle.std.proofs.Math.Option.{Option, none, some}
 use Rattle.meaning.specs.Lists.{most_vertices}
-use Rattle.meaning.specs.Verdicts.{passes, refusal_number, refusal_place}
-use Rattle.meaning.specs.declared.Verdict.{Verdict}
+use Rattle.meaning.specs.Verdicts.{Verdict, passes, refusal_number, refusal_place}
 
 -- ---- what an answer carries
 

@@ -2,15 +2,25 @@
 -- the next, with the first offending vertex, from 0, as the place.
 --   at                                     the vertex at a place
 --   outside_at, falls_at, on_odd_line_at        what is wrong with the vertex at a place: refusals 3, 4 and 5
+--   Verdict, Valid                         what the check answers; that the list is a travel map
 --   verdict                                what the check says
 --   passes                                 the verdict is that the list is a travel map
---   refusal_number, refusal_place            the number and the place that document 01's table gives a verdict
-use Rattle.std.specs.Prelude.{Bool, true, false, not, ◌||◌, cond, List, ℕ, zero, suc, ◌%◌, ℤ, pos, ltb, eqb, length, get_or}
-use Rattle.meaning.specs.Numbers.{focus, first as first_shift, second, Corner, corner, is_corner}
+--   number_of, place_of                    the number and the place that document 01's table gives a refusal
+--   refusal_number, refusal_place            the same of a verdict
+use Rattle.std.specs.Prelude.{Bool, true, false, not, ◌||◌, cond, List, ℕ, zero, suc, ◌%◌, ℤ, pos, ltb, eqb, length, get_or, Result, Ok, Err}
+use Rattle.meaning.specs.Numbers.{focus, first as first_shift, second, corner, is_corner}
+use Rattle.meaning.specs.declared.Corner.{Corner}
 use Rattle.meaning.specs.Counting.{first}
 use Rattle.meaning.specs.Lists.{vertices, below, odd_line, most_vertices}
-use Rattle.meaning.specs.declared.Verdict.{Verdict}
-use Rattle.meaning.specs.declared.Verdict.TheVariants.{Valid, NotTriples, TooMany, OutOfRange, NotRising, OddLine}
+use Rattle.meaning.specs.declared.Refusal.{Refusal}
+use Rattle.meaning.specs.declared.Refusal.TheVariants.{NotTriples, TooMany, OutOfRange, NotRising, OddLine}
+
+-- what the check answers: that the list is a travel map, or why not
+abbrev pub Verdict : Type 0
+Verdict = Result (Unit {0}) Refusal
+
+pattern abbrev pub Valid : Verdict
+Valid = Ok tt
 
 abbrev pub at : List Corner → ℕ → Corner
 at l i = get_or l i (corner (pos 0) (pos 0) (pos 0))
@@ -26,8 +36,8 @@ abbrev pub on_odd_line_at : List Corner → ℕ → Bool
 on_odd_line_at l i = odd_line focus l (at l i) || (odd_line first_shift l (at l i) || odd_line second l (at l i))
 
 -- the refusal at the first place that fails a test, or what comes next where none does
-abbrev pub unless_at : (ℕ → Bool) → ℕ → (ℕ → Verdict) → Verdict → Verdict
-unless_at p n refusal next = cond (ltb (first p n) n) (refusal (first p n)) next
+abbrev pub unless_at : (ℕ → Bool) → ℕ → (ℕ → Refusal) → Verdict → Verdict
+unless_at p n refusal next = cond (ltb (first p n) n) (Err (refusal (first p n))) next
 
 abbrev pub verdict_of : List Corner → Verdict
 verdict_of l =
@@ -38,29 +48,31 @@ verdict_of l =
 unfoldable pub verdict : List ℤ → Verdict
 verdict ns =
     cond (eqb (length ns % 3) 0)
-    (cond (ltb most_vertices (length (vertices ns))) TooMany (verdict_of (vertices ns)))
-    NotTriples
+    (cond (ltb most_vertices (length (vertices ns))) (Err TooMany) (verdict_of (vertices ns)))
+    (Err NotTriples)
 
 abbrev pub passes : Verdict → Bool
-passes Valid = true
-passes NotTriples = false
-passes TooMany = false
-passes (OutOfRange i) = false
-passes (NotRising i) = false
-passes (OddLine i) = false
+passes (Ok u) = true
+passes (Err r) = false
+
+abbrev pub number_of : Refusal → ℕ
+number_of NotTriples = 1
+number_of TooMany = 2
+number_of (OutOfRange i) = 3
+number_of (NotRising i) = 4
+number_of (OddLine i) = 5
+
+abbrev pub place_of : Refusal → ℕ
+place_of NotTriples = 0
+place_of TooMany = 0
+place_of (OutOfRange i) = i
+place_of (NotRising i) = i
+place_of (OddLine i) = i
 
 abbrev pub refusal_number : Verdict → ℕ
-refusal_number Valid = 0
-refusal_number NotTriples = 1
-refusal_number TooMany = 2
-refusal_number (OutOfRange i) = 3
-refusal_number (NotRising i) = 4
-refusal_number (OddLine i) = 5
+refusal_number (Ok u) = 0
+refusal_number (Err r) = number_of r
 
 abbrev pub refusal_place : Verdict → ℕ
-refusal_place Valid = 0
-refusal_place NotTriples = 0
-refusal_place TooMany = 0
-refusal_place (OutOfRange i) = i
-refusal_place (NotRising i) = i
-refusal_place (OddLine i) = i
+refusal_place (Ok u) = 0
+refusal_place (Err r) = place_of r

@@ -19,7 +19,9 @@ use lib.Dec.{leb, ltb}
 use lib.IntN.{ℤ}
 use lib.Signed.{le_z}
 use lib.ListN.{length, get_or}
-use Rattle.meaning.specs.Numbers.{Axis, focus, first, second, Cell, Corner, cell, is_code, is_cell, lowest, number, steps}
+use Rattle.meaning.specs.Numbers.{Axis, focus, first, second, cell, is_code, is_cell, lowest, number, steps}
+use Rattle.meaning.specs.declared.Cell.{Cell}
+use Rattle.meaning.specs.declared.Corner.{Corner}
 use Rattle.meaning.specs.Lists.{permitted, Valid}
 use Rattle.meaning.specs.Nearest.{weight, distance, lower, Nearest}
 use Rattle.meaning.proofs.Parity.{sum, sum_ext}
@@ -35,7 +37,7 @@ use Rattle.ranks.specs.Values.{apart, value, way, Brought}
 use Rattle.cells.specs.Cells.{Best, Depth, Rank, map_in, section_in, plane_unit, rest}
 use Rattle.search.specs.Search.{Even}
 use Rattle.squares.proofs.Runs.{sum_places}
-use Rattle.nearest.specs.Ranks.{rank_of, Ranked, code_at}
+use Rattle.nearest.specs.Ranks.{rank_of, Ranked, cell_of}
 use Rattle.ranks.specs.declared.Scale.{Scale}
 use Rattle.ranks.proofs.Costs.{value_small}
 use Rattle.nearest.proofs.Distances.{distance_apart}
@@ -210,10 +212,6 @@ record Parts (n a b d r : ℕ) : Type 0 where
 
 parts : (n a b d r : ℕ) → (a < 1024) × (b < 1024) × (d < 1024) → r ≡ n * 1073741824 + (a * 1048576 + b * 1024 + d) → Parts n a b d r
 parts n a b d r k e = record { far = omega arith; one = omega arith; two = omega arith; three = omega arith }
-
--- the cell of a rank
-abbrev pub cell_of : ℕ → Cell
-cell_of r = cell (code_at r 1048576) (code_at r 1024) (code_at r 1)
 
 -- lower among cells is lower among the three codes as one number
 abbrev as_one : ℕ → ℕ → ℕ → ℕ

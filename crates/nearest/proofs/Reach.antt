@@ -1,19 +1,21 @@
 -- From where to where a map lies on each axis: a permitted cell lies from the lowest to below the highest number of the list.
 --   below_low, above_high                  a sum over keys that are all above a code, or all not above two
 --   inside_extent, some_extent             a permitted cell lies inside, on every axis; a map that is not empty is wider than nothing
+--   keys_front                             the keys that were written to the front of a room
 --   keyed, keyed-..                        the keys of a map: they rise and are even along the focus
 --   located_wide, located_inside           from where to where it lies
 -- Assumes nothing.
 use mathlib.Core.Path.{◌≡◌, refl, sym, ◌∙◌, ap, subst}
 use mathlib.Core.Bool.{Bool, true, false, ◌&&◌, true≢false}
-use mathlib.Core.List.{List, map}
+use mathlib.Core.List.{List, map, ◌++◌}
 use Prim.Native.Nat.{ℕ, ◌≤◌, ◌<◌}
 use native.Mathlib.Omega.{arith}
 use borrow.Author.Tests.{le-leb, lt-leb, ltb-true, ltb-false}
 use lib.Dec.{leb, ltb}
-use lib.ListN.{length, get_or}
-use lib.Seq.{take-length}
-use Rattle.meaning.specs.Numbers.{Axis, focus, first, second, Corner}
+use lib.ListN.{length, get_or, take, length-map}
+use lib.Seq.{take-length, take_at}
+use Rattle.meaning.specs.Numbers.{Axis, focus, first, second}
+use Rattle.meaning.specs.declared.Corner.{Corner}
 use Rattle.meaning.specs.Lists.{permitted, Valid}
 use Rattle.meaning.proofs.Parity.{sum, sum_ext}
 use Rattle.meaning.proofs.Maps.{valid_within}
@@ -117,6 +119,10 @@ some_extent l valid h {x} {y} {z} p q r =
     (omega arith, omega arith, omega arith)
 
 -- ---- the keys of a map
+
+-- what is read from the front of a room is the keys that were written there
+pub keys_front : (l : List Corner) (n : ℕ) (room behind : List ℕ) → (n ≡ length l) × (room ≡ map key_of l ++ behind) → take n room ≡ map key_of l
+keys_front l n room behind e = ap (take n) e.1 ∙ take_at (map key_of l) behind n (length-map l key_of ∙ sym e.0)
 
 -- the keys of a valid list of corners that is not empty are those of a map
 pub keyed : (l : List Corner) (keys : List ℕ) → keys ≡ map key_of l → Valid l → 0 < length l → Keyed keys

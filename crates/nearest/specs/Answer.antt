@@ -1,22 +1,26 @@
 -- What nearest answers (document 01, "What can be asked", "Why a call comes back" and demand 3).
+--   Found                                   what nearest answers: a cell and its distance, or why there is none
 --   found_values, found_reached, found_says    document 01's values of each case of the answer; the cell and the distance that it gives; what it comes to
 --   Answered                                the promise, over the list, the wish and the answer
-use Rattle.std.specs.Prelude.{◌≡◌, List, ℤ}
-use Rattle.meaning.specs.Numbers.{Cell, cell}
+use Rattle.std.specs.Prelude.{◌≡◌, List, ℤ, Result, Ok, Err}
+use Rattle.meaning.specs.declared.Cell.{Cell}
 use Rattle.meaning.specs.Outcomes.{Values, Outcome, outcome, Nothing, nothing, done, empty_map, refused}
-use Rattle.meaning.specs.Nearest.{Reached, reached, nowhere, IsNearest, nearest_outcome}
-use Rattle.nearest.specs.declared.Found.{Found}
-use Rattle.nearest.specs.declared.Found.TheVariants.{At, Empty, Refused}
+use Rattle.meaning.specs.Nearest.{nowhere, IsNearest, nearest_outcome}
+use Rattle.meaning.specs.declared.Reached.{Reached}
+use Rattle.nearest.specs.declared.NearestError.{NearestError}
+use Rattle.nearest.specs.declared.NearestError.TheVariants.{Empty, Refused}
+
+abbrev pub Found : Type 0
+Found = Result Reached NearestError
 
 abbrev pub found_values : Found → Values
-found_values (At a b d n) = done 0
-found_values Empty = empty_map
-found_values (Refused v) = refused 1 v
+found_values (Ok r) = done 0
+found_values (Err Empty) = empty_map
+found_values (Err (Refused r)) = refused 1 (Err r)
 
 abbrev pub found_reached : Found → Reached
-found_reached (At a b d n) = reached (cell a b d) n
-found_reached Empty = nowhere
-found_reached (Refused v) = nowhere
+found_reached (Ok r) = r
+found_reached (Err e) = nowhere
 
 abbrev pub found_says : Found → Outcome Reached Nothing
 found_says r = outcome (found_values r) (found_reached r) nothing

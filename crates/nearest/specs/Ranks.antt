@@ -1,26 +1,26 @@
 -- Inner: the rank of a cell.
 --   rank_of     a cell's distance and codes as one number
 --   Ranked     the least rank of the permitted cells
---   RankedFor  the same for a wish by its steps above -32768, and that it fits
+--   LeastRank, RankedFor    the same, and that it fits; for a wish by its steps above -32768
 --   code_at     the code that stands at a place of a rank
---   found_at    the cell and the distance of a rank, as an answer
---   Askable    a map that is not empty, and a wish by its steps above -32768
+--   cell_of, found_at    the cell of a rank; the cell and its distance
 --   Keyed      the keys of a map that is not empty
 --   Located    the same, and from where to where the map lies on the three axes
 --   Wished     a wish by its steps above -32768
 --   few_vertices    the most vertices for which small rooms do
 --   Rooms      the rooms of the search are long enough for so many keys
 use Rattle.std.specs.Prelude.{◌≡◌, true, List, map, ℕ, ◌+◌, ◌*◌, ◌/◌, ◌%◌, ◌^◌, ◌≤◌, ◌<◌, ℤ, length}
-use Rattle.meaning.specs.Numbers.{focus, first, second, Cell, Corner, cell, number}
-use Rattle.meaning.specs.Lists.{vertices, permitted, Valid}
-use Rattle.meaning.specs.Nearest.{distance}
+use Rattle.meaning.specs.Numbers.{focus, first, second, cell, number}
+use Rattle.meaning.specs.declared.Cell.{Cell}
+use Rattle.meaning.specs.declared.Corner.{Corner}
+use Rattle.meaning.specs.declared.Reached.{Reached}
+use Rattle.meaning.specs.Lists.{permitted, Valid}
+use Rattle.meaning.specs.Nearest.{distance, reached}
 use Rattle.codes.specs.Keys.{key_of, of_key}
 use Rattle.codes.specs.Lift.{lowered}
 use Rattle.ranks.specs.Values.{axis_codes}
 use Rattle.ranks.specs.Extents.{Extends}
 use Rattle.nearest.specs.declared.Extents.{Extents}
-use Rattle.nearest.specs.declared.Found.{Found}
-use Rattle.nearest.specs.declared.Found.TheVariants.{At}
 
 -- the distance, then focus, first shift and second shift, as one number
 abbrev pub rank_of : Cell → ℕ → ℕ → ℕ → ℕ
@@ -37,23 +37,24 @@ pub record Ranked (l : List Corner) (w : Cell) (r : ℕ) : Type 0 where
   pub least : (a b d : ℕ) → (a < axis_codes) × (b < axis_codes) × (d < axis_codes)
       → permitted l (cell (number a) (number b) (number d)) ≡ true → r ≤ rank_of w a b d
 
+abbrev pub LeastRank : List Corner → Cell → ℕ → Type 0
+LeastRank l w r = Ranked l w r × (r < 2 ^ 62)
+
 abbrev pub RankedFor : List Corner → ℕ → ℕ → ℕ → ℕ → Type 0
-RankedFor l focus' first' second' r = Ranked l (cell (lowered focus') (lowered first') (lowered second')) r × (r < 2 ^ 62)
+RankedFor l focus' first' second' r = LeastRank l (cell (lowered focus') (lowered first') (lowered second')) r
 
 abbrev pub code_at : ℕ → ℕ → ℤ
 code_at r place = number (r / place % axis_codes)
 
-abbrev pub found_at : ℕ → Found
-found_at r = At (code_at r 1048576) (code_at r 1024) (code_at r 1) (r / 1073741824)
+abbrev pub cell_of : ℕ → Cell
+cell_of r = cell (code_at r 1048576) (code_at r 1024) (code_at r 1)
+
+abbrev pub found_at : ℕ → Reached
+found_at r = reached (cell_of r) (r / 1073741824)
 
 -- each number of a wish is so many steps above -32768
 abbrev pub Wished : ℕ → ℕ → ℕ → Type 0
 Wished focus' first' second' = (focus' < 65536) × (first' < 65536) × (second' < 65536)
-
-pub record Askable (ns : List ℤ) (focus' first' second' : ℕ) : Type 0 where
-  pub valid : Valid (vertices ns)
-  pub some : 0 < length (vertices ns)
-  pub wish : Wished focus' first' second'
 
 pub record Keyed (keys : List ℕ) : Type 0 where
   pub valid : Valid (map of_key keys)

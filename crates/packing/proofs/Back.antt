@@ -13,7 +13,8 @@ use lib.Dec.{eqb}
 use mir.Syntax.{w16}
 use mir.Val.{SFits}
 use Rattle.meaning.specs.Lists.{most_vertices}
-use Rattle.meaning.specs.Numbers.{Cell, cell}
+use Rattle.meaning.specs.Numbers.{cell}
+use Rattle.meaning.specs.declared.Cell.{Cell}
 use Rattle.meaning.specs.Outcomes.{Values}
 use Rattle.words.specs.Words.{word, signed}
 use Rattle.words.proofs.Laws.{word_fits, signed_word}

@@ -13,16 +13,19 @@ use borrow.Author.Tests.{ltb-true, ltb-false, leb-true}
 use lib.Dec.{ltb, leb, eqb}
 use lib.IntN.{ℤ}
 use lib.ListN.{length}
-use Rattle.meaning.specs.Numbers.{Cell, Corner, is_code, is_number}
+use Rattle.meaning.specs.Numbers.{is_code, is_number}
+use Rattle.meaning.specs.declared.Cell.{Cell}
+use Rattle.meaning.specs.declared.Corner.{Corner}
 use Rattle.meaning.specs.Counting.{count, first}
 use Rattle.meaning.specs.Lists.{vertices, numbers, permitted, cell_by, surrounding, weigh, mask, how_many, most_vertices}
 use Rattle.meaning.specs.Kinds.{kind, kind_by, half_edges, is_manifold, is_non_manifold}
-use Rattle.meaning.specs.Verdicts.{outside_at, falls_at, on_odd_line_at, unless_at, verdict_of, verdict, passes, refusal_number, refusal_place}
+use Rattle.meaning.specs.Verdicts.{outside_at, falls_at, on_odd_line_at, unless_at, verdict_of, Verdict, Valid, verdict, passes, place_of, refusal_number, refusal_place}
 use Rattle.meaning.specs.Operations.{operation, joined_list, axis_of, pair_numbers}
 use Rattle.meaning.specs.Outcomes.{Outcome, outcome, nothing, done, refused, refusal, verdict_values, bad_number, bad_operation, no_room, no_room_for, empty_map, kept, named, checked, per_vertex, per_pair, fits, placed}
 use Rattle.meaning.specs.Nearest.{nearest_of, nearest_outcome, nowhere}
-use Rattle.meaning.specs.declared.Verdict.{Verdict}
-use Rattle.meaning.specs.declared.Verdict.TheVariants.{Valid, NotTriples, TooMany, OutOfRange, NotRising, OddLine}
+use Rattle.std.specs.Prelude.{Ok, Err}
+use Rattle.meaning.specs.declared.Refusal.{Refusal}
+use Rattle.meaning.specs.declared.Refusal.TheVariants.{NotTriples, TooMany, OutOfRange, NotRising, OddLine}
 use Rattle.meaning.proofs.Integers.{and_right}
 use Rattle.lists.specs.Check.{check_outcome}
 use Rattle.boxes.specs.Box.{good_ends, box_vertices, box_outcome}
@@ -35,11 +38,11 @@ use Rattle.packing.specs.Packed.{Few}
 
 -- ---- the verdict
 
-unless_few : (p : ℕ → Bool) (n : ℕ) (refusing : ℕ → Verdict) (next : Verdict) → ((i : ℕ) → refusal_place (refusing i) ≡ i)
+unless_few : (p : ℕ → Bool) (n : ℕ) (refusing : ℕ → Refusal) (next : Verdict) → ((i : ℕ) → place_of (refusing i) ≡ i)
     → refusal_place next ≤ n → refusal_place (unless_at p n refusing next) ≤ n
 unless_few p n refusing next at h = go (ltb (first p n) n) refl
   where
-    go : (t : Bool) → ltb (first p n) n ≡ t → refusal_place (cond t (refusing (first p n)) next) ≤ n
+    go : (t : Bool) → ltb (first p n) n ≡ t → refusal_place (cond t (Err (refusing (first p n))) next) ≤ n
     go true e = omega (arith, at (first p n), ltb-true (first p n) n e)
     go false e = h
 
@@ -50,7 +53,7 @@ place_few ns = triples (eqb (length ns % 3) 0)
     n : ℕ
     n = length (vertices ns)
 
-    few : (t : Bool) → ltb most_vertices n ≡ t → refusal_place (cond t TooMany (verdict_of (vertices ns))) ≤ most_vertices
+    few : (t : Bool) → ltb most_vertices n ≡ t → refusal_place (cond t (Err TooMany) (verdict_of (vertices ns))) ≤ most_vertices
     few true e = omega arith
     few false e =
         let l = vertices ns in
@@ -59,25 +62,25 @@ place_few ns = triples (eqb (length ns % 3) 0)
         (unless_few (falls_at l) (length l) NotRising _ (λ i. refl) (unless_few (on_odd_line_at l) (length l) OddLine Valid (λ i. refl) (omega arith))) in
         omega (arith, r, ltb-false most_vertices n e)
 
-    triples : (t : Bool) → refusal_place (cond t (cond (ltb most_vertices n) TooMany (verdict_of (vertices ns))) NotTriples) ≤ most_vertices
+    triples : (t : Bool) → refusal_place (cond t (cond (ltb most_vertices n) (Err TooMany) (verdict_of (vertices ns))) (Err NotTriples)) ≤ most_vertices
     triples true = few (ltb most_vertices n) refl
     triples false = omega arith
 
 pub values_place : (v : Verdict) → (verdict_values v).place ≡ refusal_place v
-values_place Valid = refl
-values_place NotTriples = refl
-values_place TooMany = refl
-values_place (OutOfRange i) = refl
-values_place (NotRising i) = refl
-values_place (OddLine i) = refl
+values_place (Ok u) = refl
+values_place (Err NotTriples) = refl
+values_place (Err TooMany) = refl
+values_place (Err (OutOfRange i)) = refl
+values_place (Err (NotRising i)) = refl
+values_place (Err (OddLine i)) = refl
 
 number_few : (v : Verdict) → refusal_number v < 2 ^ 8
-number_few Valid = omega arith
-number_few NotTriples = omega arith
-number_few TooMany = omega arith
-number_few (OutOfRange i) = omega arith
-number_few (NotRising i) = omega arith
-number_few (OddLine i) = omega arith
+number_few (Ok u) = omega arith
+number_few (Err NotTriples) = omega arith
+number_few (Err TooMany) = omega arith
+number_few (Err (OutOfRange i)) = omega arith
+number_few (Err (NotRising i)) = omega arith
+number_few (Err (OddLine i)) = omega arith
 
 -- ---- the order of refusals
 
@@ -172,7 +175,7 @@ module _ (ns : List ℤ) where
   pub many_few : (ws : List ℤ) (cs : List Cell) (before : List ℤ) → Few (many_outcome ns ws cs before).values
   many_few ws cs before =
       checked_few 1 ns nothing before _ (omega arith)
-      (either FewIn (eqb (length ws % per_vertex) 0) (many_of (vertices ns) cs before) (kept nothing before (refused 2 NotTriples)) (λ e. by (vertices ns))
+      (either FewIn (eqb (length ws % per_vertex) 0) (many_of (vertices ns) cs before) (kept nothing before (refused 2 (Err NotTriples))) (λ e. by (vertices ns))
       (none_few 1 2 (omega arith) (omega arith)))
     where
       by : (l : List Corner) → Few (many_of l cs before).values

@@ -13,8 +13,10 @@
 --   place_in, cell_in             the place and the cell that are read from an answer of nearest
 use Rattle.std.specs.Prelude.{◌≡◌, Bool, cond, ℕ, ◌+◌, ◌*◌, ◌-◌, ◌/◌, ◌%◌, ◌^◌, ◌≤◌, ◌<◌, eqb}
 use Rattle.meaning.specs.Lists.{most_vertices}
-use Rattle.meaning.specs.Numbers.{Cell, cell}
-use Rattle.meaning.specs.Nearest.{Reached, nowhere}
+use Rattle.meaning.specs.Numbers.{cell}
+use Rattle.meaning.specs.declared.Cell.{Cell}
+use Rattle.meaning.specs.Nearest.{nowhere}
+use Rattle.meaning.specs.declared.Reached.{Reached}
 use Rattle.meaning.specs.Outcomes.{Values, Outcome, Nothing}
 use Rattle.meaning.specs.Kinds.{bit}
 use Rattle.words.specs.Words.{word, signed}

@@ -12,7 +12,9 @@ use native.Mathlib.Omega.{arith}
 use borrow.Author.Tests.{leb-true, leb-false}
 use lib.Dec.{leb}
 use lib.Signed.{le_z}
-use Rattle.meaning.specs.Numbers.{Axis, focus, first, second, Cell, Corner, corner, cell, square, pair, number_on, pair_of, number}
+use Rattle.meaning.specs.Numbers.{Axis, focus, first, second, corner, cell, square, pair, number_on, pair_of, number}
+use Rattle.meaning.specs.declared.Cell.{Cell}
+use Rattle.meaning.specs.declared.Corner.{Corner}
 use Rattle.meaning.specs.Counting.{keep, All}
 use Rattle.meaning.specs.Lists.{permitted}
 use Rattle.meaning.specs.Operations.{section_at, lower_half, upper_half}

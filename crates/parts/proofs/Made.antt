@@ -13,7 +13,8 @@ use native.Mathlib.Omega.{arith}
 use lib.Dec.{leb}
 use lib.ListN.{length, take, drop, length-map}
 use lib.Seq.{take_at}
-use Rattle.meaning.specs.Numbers.{Axis, Corner, number}
+use Rattle.meaning.specs.Numbers.{Axis, number}
+use Rattle.meaning.specs.declared.Corner.{Corner}
 use Rattle.meaning.specs.Counting.{keep, All}
 use Rattle.meaning.specs.Lists.{permitted, Valid}
 use Rattle.meaning.specs.OneList.{one_list, one_pairs}

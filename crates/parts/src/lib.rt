@@ -1,11 +1,11 @@
-// Keys along an axis: what a section and the halves of a split are made of. Inner: what cuts builds on. It relies on `keys` for the way
-// from a list to keys, and on `rising` for the merge.
+// Keys along an axis: what a section and the halves of a split are made of. Inner: what cuts builds on. It relies on `lists` for travel maps, on
+// `keys` for the way from a list to keys, and on `rising` for the merge.
 #![tactic(auto)]
 
 ghost use Rattle.std.specs.Prelude.{◌++◌, map, ◌≡◌, ◌*◌, ◌≤◌, length, drop};
 ghost use Rattle.meaning.specs.Numbers.{number};
 ghost use Rattle.meaning.specs.Counting.{All};
-ghost use Rattle.meaning.specs.Lists.{vertices, permitted, Valid};
+ghost use Rattle.meaning.specs.Lists.{vertices, permitted};
 ghost use Rattle.meaning.specs.OneList.{one_list, one_pairs};
 ghost use Rattle.meaning.specs.Operations.{section_at, lower_half, upper_half};
 ghost use Rattle.codes.specs.Keys.{key_of, of_key};
@@ -16,9 +16,10 @@ ghost use Rattle.parts.specs.Axes.{pair_on, raised_key, pairs_below, KeysOf};
 
 use codes::{LINE, PLANE};
 use keys::{FIRST_SHIFT, FOCUS};
+use lists::TravelMap;
 
 // How many keys the two halves of a split have.
-#[derive(Clone, Copy)]
+#[derive(Clone, Copy, Debug, PartialEq, Eq)]
 pub struct Halves {
     pub lower: usize,
     pub upper: usize,
@@ -86,15 +87,21 @@ fn raise_all(keys: &[u32], axis: u32, at: u32, out: &mut [u32])
 }
 
 // Writes the pair keys of a section to the front of keys, and answers how many there are; work is room to work in.
-pub fn section_keys(list: &[i16], axis: u32, cut: u32, keys: &mut [u32], work: &mut [u32]) -> usize
-    requires valid { Valid (vertices list.now) }
-    requires keys_room { length (vertices list.now) ≤ length keys.old }
-    requires work_room { length (vertices list.now) ≤ length work.old }
+// The axis is a number here and below, since the wrong program bad_axis_let_through of cuts must be able to hand on one that names none.
+pub fn section_keys(
+    map: TravelMap,
+    axis: u32,
+    cut: u32,
+    keys: &mut [u32],
+    work: &mut [u32],
+) -> usize
+    requires keys_room { length (vertices map.list.now) ≤ length keys.old }
+    requires work_room { length (vertices map.list.now) ≤ length work.old }
     ensures { KeysOf PairOk pair_of_key
-        (one_pairs (section_at (axis_at axis) (number cut) (permitted (vertices list.now))))
+        (one_pairs (section_at (axis_at axis) (number cut) (permitted (vertices map.entry.list.now))))
         keys.new result }
 {
-    let count = keys::read(list, work);
+    let count = keys::read(map.list, work);
     let n = pairs_below(&work[..count], axis, cut, keys);
     rising::cancel(&mut keys[..n], work)
 }
@@ -115,26 +122,25 @@ fn upper_keys(whole: &[u32], axis: u32, at: u32, upper: &mut [u32], work: &mut [
 
 // Writes the keys of the two halves of a split to the fronts of lower and upper, and answers how many each has; whole is room to work in.
 pub fn split_keys(
-    list: &[i16],
+    map: TravelMap,
     axis: u32,
     at: u32,
     whole: &mut [u32],
     upper: &mut [u32],
     lower: &mut [u32],
 ) -> Halves
-    requires valid { Valid (vertices list.now) }
     requires at_bound { at ≤ 1024 }
-    requires whole_room { length (vertices list.now) ≤ length whole.old }
-    requires upper_room { length (vertices list.now) ≤ length upper.old }
-    requires lower_room { 2 * length (vertices list.now) ≤ length lower.old }
+    requires whole_room { length (vertices map.list.now) ≤ length whole.old }
+    requires upper_room { length (vertices map.list.now) ≤ length upper.old }
+    requires lower_room { 2 * length (vertices map.list.now) ≤ length lower.old }
     ensures lower_keys { KeysOf KeyOk of_key
-        (one_list (lower_half (axis_at axis) (number at) (permitted (vertices list.now))))
+        (one_list (lower_half (axis_at axis) (number at) (permitted (vertices map.entry.list.now))))
         lower.new result.lower }
     ensures upper_keys { KeysOf KeyOk of_key
-        (one_list (upper_half (axis_at axis) (number at) (permitted (vertices list.now))))
+        (one_list (upper_half (axis_at axis) (number at) (permitted (vertices map.entry.list.now))))
         upper.new result.upper }
 {
-    let n = keys::read(list, whole);
+    let n = keys::read(map.list, whole);
     let above = upper_keys(&whole[..n], axis, at, upper, lower);
     let below = rising::merge(&whole[..n], &upper[..above], 0, lower);
     Halves {

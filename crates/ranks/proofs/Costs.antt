@@ -45,10 +45,10 @@ value_fits weight a c place p q s u =
       behind = let m : c ≤ 1023 = omega arith in omega (arith, mul-le-mul m u);
     }
 
-module _ (scale : Scale) (sound : Sound scale) (c : ℕ) (inside : c < 1024) where
+module _ (scale : Scale) (c : ℕ) (inside : c < 1024) where
   pub at_fits : Parts scale.weight (apart scale.wish c) c scale.place
   at_fits =
-      value_fits scale.weight (apart scale.wish c) c scale.place sound.light (omega (arith, sound.code)) inside sound.inside
+      value_fits scale.weight (apart scale.wish c) c scale.place scale.sound.2 (omega (arith, scale.sound.0)) inside scale.sound.3
 
   pub valued : Valued scale c (scale.weight * apart scale.wish c * 1073741824 + c * scale.place)
   unfolding value
@@ -67,20 +67,20 @@ pub record Away (w : ℕ) (v : ℕ → ℕ) : Type 0 where
   pub up : (a b : ℕ) → w ≤ a → a ≤ b → v a ≤ v b
   pub down : (a b : ℕ) → a ≤ b → b ≤ w → v b ≤ v a
 
-pub value_away : (scale : Scale) → Sound scale → Away scale.wish (value scale)
+pub value_away : (scale : Scale) → Away scale.wish (value scale)
 unfolding value
-value_away scale sound =
+value_away scale =
     record {
-      up = λ a b p q. value_rises scale.weight scale.wish a b scale.place sound.some sound.inside (omega arith);
-      down = λ a b p q. value_rises scale.weight scale.wish b a scale.place sound.some sound.inside (omega arith);
+      up = λ a b p q. value_rises scale.weight scale.wish a b scale.place scale.sound.1 scale.sound.3 (omega arith);
+      down = λ a b p q. value_rises scale.weight scale.wish b a scale.place scale.sound.1 scale.sound.3 (omega arith);
     }
 
 -- ---- what counts is small
 
-pub beyond_fits : (scale : Scale) → Sound scale → (wish : ℕ) → wish < 65536 → way wish scale < 1048577
-beyond_fits scale sound wish h =
-    let m : apart wish (scale.wish + 32256) ≤ 65535 = omega (arith, sound.code) in omega (arith, mul-le-mul sound.light m)
+pub beyond_fits : (scale : Scale) (wish : ℕ) → wish < 65536 → way wish scale < 1048577
+beyond_fits scale wish h =
+    let m : apart wish (scale.wish + 32256) ≤ 65535 = omega (arith, scale.sound.0) in omega (arith, mul-le-mul scale.sound.2 m)
 
 -- the value of a code within the range
 pub value_small : (scale : Scale) → Sound scale → (c : ℕ) → c < 1024 → value scale c < 2 ^ 44
-value_small scale sound c h = let f = valued scale sound c h in omega (arith, f.is, f.small)
+value_small scale sound c h = let f = valued scale c h in omega (arith, f.is, f.small)

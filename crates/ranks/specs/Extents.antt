@@ -1,10 +1,13 @@
 -- Inner: from where to where a map lies on an axis.
---   Extends    from where to where the parts of some keys lie
+--   axis_codes   how many codes an axis has
+--   Extends      from where to where the parts of some keys lie
 use Rattle.std.specs.Prelude.{List, ℕ, ◌≤◌, ◌<◌, length, get_or}
 use Rattle.meaning.specs.Numbers.{Axis}
 use Rattle.keys.specs.Parts.{part_on}
-use Rattle.ranks.specs.Values.{axis_codes}
 use Rattle.ranks.specs.declared.Extent.{Extent}
+
+abbrev pub axis_codes : ℕ
+axis_codes = 1024
 
 -- every part on an axis lies from low to high
 pub record Extends (axis : Axis) (keys : List ℕ) (r : Extent) : Type 0 where

@@ -1,5 +1,4 @@
 -- Inner: what the codes of an axis count in a rank.
---   axis_codes          how many codes an axis has
 --   apart, Near        the difference of two numbers; the code of a stretch nearest to a wish, on the way to every other
 --   value, Sound       what a code counts in a rank: its cost, and behind it its place among equals; a scale whose values fit
 --   Valued             what a code counts, and that it is small
@@ -7,9 +6,7 @@
 --   way, Brought       what the way from a wish to the code of its scale counts; the scale of an axis for a wish
 use Rattle.std.specs.Prelude.{◌≡◌, cond, ℕ, ◌+◌, ◌-◌, ◌*◌, ◌^◌, ◌≤◌, ◌<◌, ltb}
 use Rattle.ranks.specs.declared.Scale.{Scale}
-
-abbrev pub axis_codes : ℕ
-axis_codes = 1024
+pub use Rattle.ranks.specs.Extents.{axis_codes}
 
 abbrev pub apart : ℕ → ℕ → ℕ
 apart a b = (a - b) + (b - a)

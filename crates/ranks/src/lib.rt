@@ -4,8 +4,7 @@
 
 ghost use Rattle.std.specs.Prelude.{◌≡◌, ℕ, ◌<◌, ◌≤◌, length, get_or};
 ghost use Rattle.keys.specs.Parts.{axis_at, part_on};
-ghost use Rattle.ranks.specs.Values.{axis_codes, Near, value, Sound, Valued, behind, way, Brought};
-ghost use Rattle.ranks.specs.Extents.{Extends};
+ghost use Rattle.ranks.specs.Extents.{axis_codes, Extends};
 
 // How many codes an axis has.
 pub const END: u32 = 1024;
@@ -16,74 +15,84 @@ const LOWEST: u32 = codes::LOWEST as u32;
 // What one unit of distance counts in a rank: more than all codes together.
 pub const DISTANCE: u64 = 1073741824;
 
-// How the codes of an axis count: the wish as a code from 0, what one code counts as distance, and what it counts among equals.
+// How the codes of an axis count: the wish as a code from 0, what one code counts as distance, and what it counts among equals. The values of codes fit.
 #[derive(Clone, Copy)]
 pub struct Scale {
     pub wish: u32,
     pub weight: u64,
     pub place: u64,
+    pub ghost sound: { (wish < axis_codes) × (0 < weight) × (weight ≤ 16) × (place ≤ 1048576) },
 }
 
-// The code from low to below high that lies nearest to the wish.
-pub fn near(wish: u32, low: u32, high: u32) -> u32
-    requires { low < high }
-    ensures { Near wish low high result }
-{
-    wish.clamp(low, high - 1)
-}
+impl Scale {
+    ghost use Rattle.ranks.specs.Values.{Near, Valued, behind, way, Brought};
 
-// What a code counts in a rank.
-#[tactic(auto, using(crate::proofs::Costs::valued))]
-pub fn value_at(scale: Scale, code: u32) -> u64
-    requires sound { Sound scale }
-    requires code_lt_axis_codes { code < axis_codes }
-    ensures { Valued scale code result }
-{
-    let cost = scale.weight * u64::from(scale.wish.abs_diff(code));
-    cost * DISTANCE + u64::from(code) * scale.place
-}
+    // The scale of an axis for a wish, of which all cells lie from low to below high: the wish is brought to the nearest code there.
+    pub fn bring(wish: u32, low: u32, high: u32, weight: u64, place: u64) -> Self
+        requires low_lt_high { (low < high) × (high ≤ axis_codes) }
+        requires weight_nonzero { (0 < weight) × (weight ≤ 16) × (place ≤ 1048576) }
+        ensures { Brought wish low high weight place result }
+    {
+        let code = Self::near(wish, LOWEST + low, LOWEST + high) - LOWEST;
+        Scale {
+            wish: code,
+            weight,
+            place,
+        }
+    }
 
-// The code just behind a number as seen from the wish.
-fn code_behind(wish: u32, number: u32) -> u32
-    ensures { result ≡ behind wish number }
-{
-    if wish < number {
-        number
-    } else {
-        number.saturating_sub(1)
+    // The code from low to below high that lies nearest to the wish.
+    fn near(wish: u32, low: u32, high: u32) -> u32
+        requires { low < high }
+        ensures { Near wish low high result }
+    {
+        wish.clamp(low, high - 1)
+    }
+
+    // What a code counts in a rank.
+    #[tactic(auto, using(crate::proofs::Costs::valued))]
+    pub fn value_at(self, code: u32) -> u64
+        requires { code < axis_codes }
+        ensures { Valued self code result }
+    {
+        let cost = self.weight * u64::from(self.wish.abs_diff(code));
+        cost * DISTANCE + u64::from(code) * self.place
+    }
+
+    // The code just behind a number as seen from the wish.
+    fn code_behind(self, number: u32) -> u32
+        ensures { result ≡ behind self.wish number }
+    {
+        if self.wish < number {
+            number
+        } else {
+            number.saturating_sub(1)
+        }
+    }
+
+    // What the code just behind a number counts in a rank.
+    pub fn value_behind(self, number: u32) -> u64
+        requires { number < axis_codes }
+        ensures { Valued self (behind self.wish number) result }
+    {
+        self.value_at(self.code_behind(number))
+    }
+
+    // What the way from a wish to the scale's code counts as distance.
+    pub fn beyond(self, wish: u32) -> u64
+        requires { wish < 65536 }
+        ensures { result ≡ way wish self }
+    {
+        self.weight * u64::from(wish.abs_diff(self.wish + LOWEST))
     }
 }
 
-// What the code just behind a number counts in a rank.
-pub fn value_behind(scale: Scale, number: u32) -> u64
-    requires sound { Sound scale }
-    requires number_lt_axis_codes { number < axis_codes }
-    ensures { Valued scale (behind scale.wish number) result }
-{
-    value_at(scale, code_behind(scale.wish, number))
-}
-
-// The scale of an axis for a wish, of which all cells lie from low to below high: the wish is brought to the nearest code there.
-pub fn bring(wish: u32, low: u32, high: u32, weight: u64, place: u64) -> Scale
-    requires low_lt_high { (low < high) × (high ≤ axis_codes) }
-    requires weight_nonzero { (0 < weight) × (weight ≤ 16) × (place ≤ 1048576) }
-    ensures { Brought wish low high weight place result }
-{
-    let code = near(wish, LOWEST + low, LOWEST + high) - LOWEST;
-    Scale {
-        wish: code,
-        weight,
-        place,
-    }
-}
-
-// What the way from a wish to the code of its scale counts as distance.
-pub fn beyond(wish: u32, scale: Scale) -> u64
-    requires wish_bound { wish < 65536 }
-    requires sound { Sound scale }
-    ensures { result ≡ way wish scale }
-{
-    scale.weight * u64::from(wish.abs_diff(scale.wish + LOWEST))
+// How the codes of the three axes count.
+#[derive(Clone, Copy)]
+pub struct Scales {
+    pub focus: Scale,
+    pub first: Scale,
+    pub second: Scale,
 }
 
 // The lowest and the highest number on an axis, counted from 0.
@@ -93,7 +102,8 @@ pub struct Extent {
     pub high: u32,
 }
 
-// From where to where the parts of some keys lie on an axis: a wish outside is first brought to there, so that the search can stop early.
+// From where to where the parts of some keys lie on an axis, which is a number as `keys::part_on` takes it: a wish outside is first brought to there,
+// so that the search can stop early.
 pub fn extend(keys: &[u32], axis: u32) -> Extent
     requires { (i : ℕ) → i < length keys.now → part_on (axis_at axis) (get_or keys.now i 0) ≤ axis_codes }
     ensures { Extends (axis_at axis) keys.now result }

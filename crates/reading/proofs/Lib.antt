@@ -4,3 +4,4 @@ pub mod Totals
 pub mod Order
 pub mod ByEnds
 pub mod Places
+pub mod Stated

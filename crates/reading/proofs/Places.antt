@@ -19,12 +19,11 @@ use lib.IntN.{ℤ}
 use lib.ListN.{length}
 use Rattle.meaning.specs.Counting.{first}
 use Rattle.meaning.specs.Lists.{vertices, most_vertices}
-use Rattle.meaning.specs.Verdicts.{verdict, passes, refusal_number, refusal_place}
-use Rattle.meaning.specs.declared.Verdict.{Verdict}
-use Rattle.meaning.specs.declared.Verdict.TheVariants.{Valid, NotTriples, TooMany, OutOfRange, NotRising, OddLine}
+use Rattle.meaning.specs.Verdicts.{Verdict, Valid, verdict, passes, refusal_number, refusal_place}
+use Rattle.meaning.specs.declared.Refusal.TheVariants.{NotTriples, TooMany, OutOfRange, NotRising, OddLine}
 use Rattle.meaning.proofs.First.{first_is, is_first}
 use Rattle.meaning.proofs.Checked.{passed}
-use Rattle.std.specs.Prelude.{Option, Some, None}
+use Rattle.std.specs.Prelude.{Option, Some, None, Ok, Err}
 use Rattle.frames.specs.Frames.{line_end, long_line, one_at}
 use Rattle.reading.specs.Reading.{Text, refused, whole, count_tag, vertex_tag, sum_tag, wish_tag, ill_at, numbers_from, unless_ill}
 use Rattle.reading.specs.Reading.{too_many, ill_formed, wrong_sum, vertex_place, sum_place}
@@ -50,12 +49,12 @@ pub data MapTen (s : List ℕ) (p : ℕ) : Type 0 where
 
 -- no other refusal of a map is 10
 not_verdict : (v : Verdict) (ns : List ℤ) (p : ℕ) → refused ill_formed p ≡ by_verdict ns v → ⊥
-not_verdict Valid ns p e = let z : ◌≡◌ {A = ℕ} 0 1 = cc in omega arith
-not_verdict NotTriples ns p e = let z : ◌≡◌ {A = ℕ} ill_formed 1 = cc in omega arith
-not_verdict TooMany ns p e = let z : ◌≡◌ {A = ℕ} ill_formed 2 = cc in omega arith
-not_verdict (OutOfRange i) ns p e = let z : ◌≡◌ {A = ℕ} ill_formed 3 = cc in omega arith
-not_verdict (NotRising i) ns p e = let z : ◌≡◌ {A = ℕ} ill_formed 4 = cc in omega arith
-not_verdict (OddLine i) ns p e = let z : ◌≡◌ {A = ℕ} ill_formed 5 = cc in omega arith
+not_verdict (Ok tt) ns p e = let z : ◌≡◌ {A = ℕ} 0 1 = cc in omega arith
+not_verdict (Err NotTriples) ns p e = let z : ◌≡◌ {A = ℕ} ill_formed 1 = cc in omega arith
+not_verdict (Err TooMany) ns p e = let z : ◌≡◌ {A = ℕ} ill_formed 2 = cc in omega arith
+not_verdict (Err (OutOfRange i)) ns p e = let z : ◌≡◌ {A = ℕ} ill_formed 3 = cc in omega arith
+not_verdict (Err (NotRising i)) ns p e = let z : ◌≡◌ {A = ℕ} ill_formed 4 = cc in omega arith
+not_verdict (Err (OddLine i)) ns p e = let z : ◌≡◌ {A = ℕ} ill_formed 5 = cc in omega arith
 
 not_other : (a b p q : ℕ) → (a ≡ b → ⊥) → refused a p ≡ refused b q → ⊥
 not_other a b p q h e = h (cc)

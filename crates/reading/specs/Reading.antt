@@ -14,9 +14,8 @@
 use Rattle.std.specs.Prelude.{Bool, true, false, ◌||◌, cond, List, [], ◌∷◌, ◌++◌, ℕ, zero, suc, ◌+◌, ◌-◌, ◌*◌, ◌/◌, ◌%◌, ltb, leb, eqb, ℤ, length, Option, Some, None}
 use Rattle.meaning.specs.Counting.{first}
 use Rattle.meaning.specs.Lists.{most_vertices}
-use Rattle.meaning.specs.Verdicts.{verdict, passes, refusal_number, refusal_place}
-use Rattle.meaning.specs.declared.Verdict.{Verdict}
-use Rattle.meaning.specs.declared.Verdict.TheVariants.{TooMany}
+use Rattle.meaning.specs.Verdicts.{Verdict, verdict, passes, number_of, refusal_number, refusal_place}
+use Rattle.meaning.specs.declared.Refusal.TheVariants.{TooMany}
 use Rattle.frames.specs.Frames.{digit0, short_line, long_line, one_at, three_at}
 use Rattle.words.specs.Words.{all_words, word, signed}
 
@@ -33,7 +32,7 @@ abbrev pub wish_tag : ℕ
 wish_tag = digit0 + 4
 
 abbrev pub too_many : ℕ
-too_many = refusal_number TooMany
+too_many = number_of TooMany
 
 abbrev pub ill_formed : ℕ
 ill_formed = 10

@@ -4,11 +4,10 @@
 
 ghost use Rattle.std.specs.Prelude.{◌≡◌, ◌*◌, ◌≤◌, List, ℤ, length, take};
 ghost use Rattle.meaning.specs.Counting.{first};
-ghost use Rattle.reading.specs.Reading.{ill_at, numbers_from, closing_sum, by_verdict, counted, map_text, wish_text};
+ghost use Rattle.reading.specs.Reading.{ill_at, numbers_from, closing_sum, counted, map_text, wish_text};
 ghost use Rattle.reading.specs.Read.{refused_number, refused_place, meant, AtMost};
 
-use frames::NUMBERS;
-use meaning::{MOST_VERTICES, Verdict};
+use meaning::{MOST_VERTICES, NUMBERS, Refusal};
 
 // The tags' second digits: a count, a vertex, a closing sum, a wish.
 const COUNT_TAG: u8 = b'1';
@@ -46,20 +45,22 @@ const COUNT_LINE: usize = 1;
 // Why a text is refused.
 #[derive(Clone, Copy, Debug, PartialEq, Eq)]
 pub enum Refused {
-    // The numbers of the vertices are not a multiple of three.
-    NotTriples,
-    // More vertices than a map may have.
-    TooMany,
-    // The first vertex that has a number outside the corner numbers.
-    OutOfRange(usize),
-    // The first vertex that does not stand above the one before it.
-    NotRising(usize),
-    // The first vertex that stands on a line with an odd number of vertices.
-    OddLine(usize),
+    // The list of its numbers is no travel map.
+    List(Refusal),
     // The line, from 1, that is ill formed.
     IllFormed(usize),
     // The closing sum is wrong.
     WrongSum,
+}
+
+impl From<Refusal> for Refused {
+    ghost use Rattle.reading.specs.declared.Refused.{Refused};
+
+    ghost from_gives = { λ why refused. refused ≡ Refused.List why };
+
+    fn from(why: Refusal) -> Refused {
+        Refused::List(why)
+    }
 }
 
 impl Refused {
@@ -68,11 +69,7 @@ impl Refused {
         ensures { result ≡ refused_number self }
     {
         match self {
-            Refused::NotTriples => 1,
-            Refused::TooMany => 2,
-            Refused::OutOfRange(_) => 3,
-            Refused::NotRising(_) => 4,
-            Refused::OddLine(_) => 5,
+            Refused::List(why) => usize::from(why.number()),
             Refused::IllFormed(_) => 10,
             Refused::WrongSum => 11,
         }
@@ -83,10 +80,9 @@ impl Refused {
         ensures { result ≡ refused_place self }
     {
         match self {
-            Refused::OutOfRange(place) | Refused::NotRising(place) | Refused::OddLine(place) =>
-                place,
+            Refused::List(why) => why.place(),
             Refused::IllFormed(line) => line,
-            Refused::NotTriples | Refused::TooMany | Refused::WrongSum => 0,
+            Refused::WrongSum => 0,
         }
     }
 }
@@ -120,22 +116,6 @@ fn closing_sum(n: u16, list: &[i16]) -> u16
         .fold(n, |sum, x| sum.wrapping_add(words::word(*x)))
 }
 
-// What the verdict on n vertices comes to.
-fn by_verdict(verdict: Verdict, n: usize) -> Result<usize, Refused>
-    requires { n ≤ 1024 }
-    ensures means { (l : List ℤ) → meant result l ≡ by_verdict (take (3 * n) l) verdict }
-    ensures at_most { AtMost 1024 result }
-{
-    match verdict {
-        Verdict::Valid => Ok(n),
-        Verdict::NotTriples => Err(Refused::NotTriples),
-        Verdict::TooMany => Err(Refused::TooMany),
-        Verdict::OutOfRange(place) => Err(Refused::OutOfRange(place)),
-        Verdict::NotRising(place) => Err(Refused::NotRising(place)),
-        Verdict::OddLine(place) => Err(Refused::OddLine(place)),
-    }
-}
-
 // Reads the lines of as many vertices as are counted and the closing line into the list.
 #[tactic(auto, unfolding(meaning::specs::Lists::most_vertices), using(crate::proofs::Order::count_ill_vertex, crate::proofs::Order::count_ill_sum, crate::proofs::Order::sum_wrong, crate::proofs::Runs::all_read))]
 fn read_counted(s: &[u8], count: u16, list: &mut [i16]) -> Result<usize, Refused>
@@ -155,7 +135,8 @@ fn read_counted(s: &[u8], count: u16, list: &mut [i16]) -> Result<usize, Refused
     if sum != closing_sum(count, numbers) {
         return Err(Refused::WrongSum);
     }
-    by_verdict(lists::check(numbers), n)
+    lists::check(numbers)?;
+    Ok(n)
 }
 
 // Reads the text of a map, up to its closing line, into the list.
@@ -167,7 +148,7 @@ pub fn read_map(s: &[u8], list: &mut [i16]) -> Result<usize, Refused>
 {
     let count = frames::number_at(s, COUNT_TAG, 0).ok_or(Refused::IllFormed(COUNT_LINE))?;
     if MOST_VERTICES < usize::from(count) {
-        return Err(Refused::TooMany);
+        return Err(Refused::List(Refusal::TooMany));
     }
     read_counted(s, count, list)
 }

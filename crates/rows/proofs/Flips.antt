@@ -1,21 +1,20 @@
 -- Rows of which the bits from a place on are turned, and rows that have taken in some keys.
 --   Turned, turned_none, turned_one    some words turned, one after the other
 --   flipped                           the word of the place turned from there on, and all words behind it turned
---   rest_of, rest_placed              the keys from a place on, and where they lie in the row
---   Took, took_begins, took_next, took_stops, took_ends    a row that has taken in some keys, one more, all of a line
+--   all_from                          what holds of all keys from a place on
+--   Took, took_none, took_one, took_all    a row that has taken in some keys, one more, all of a line
 -- Assumes nothing.
 use mathlib.Core.Path.{◌≡◌, refl, sym, ◌∙◌, ap, ap₂, subst}
 use mathlib.Core.Bool.{Bool, true, false}
 use mathlib.Core.List.{List, [], ◌∷◌, ◌++◌}
 use Prim.Native.Nat.{ℕ, suc, ◌+◌, ◌-◌, ◌*◌, ◌/◌, ◌%◌, ◌^◌, ◌≤◌, ◌<◌}
-use native.Mathlib.Nat.{add-zero}
 use native.Mathlib.Omega.{arith}
 use lib.Dec.{leb, ltb}
-use lib.ListN.{length, take, drop, get_or, set, length-set, length-drop, drop_of_length-le}
+use lib.ListN.{length, take, drop, get_or, set, length-set, length-drop}
 use lib.Seq.{get_or-set_same, get_or-set_other, take-suc, get_or-drop, length-take-le}
 use lib.Bits.{bit_xor}
 use borrow.Rule.Slice.PartMut.{mid_of, put_mid, same_len_mid}
-use Rattle.std.proofs.lemmas.List.{take_all, get_or-take, get_or_append_left, get_or-append_right}
+use Rattle.std.proofs.lemmas.List.{get_or-take, get_or_append_left, get_or-append_right}
 use borrow.Author.Tests.{ltb-true, ltb-false, le-leb, lt-leb}
 use Rattle.meaning.specs.Counting.{All}
 use Rattle.meaning.proofs.Parity.{◌⊕◌, ⊕_comm, ⊕_assoc, sum, sum_append, ⊕_false}
@@ -23,7 +22,7 @@ use Rattle.meaning.proofs.Integers.{leb_by}
 use Rattle.rising.specs.Merged.{From}
 use Rattle.turn.specs.Turn.{plane_of}
 use Rattle.turn.proofs.Lists.{all_begins, all_drop}
-use Rattle.turn.proofs.Pieces.{Running, run_begins, run_goes, run_stops}
+use Rattle.turn.proofs.Pieces.{Running, run_begins, run_goes}
 use Rattle.rows.specs.Rows.{bit, bit_at, Flipped, TookLine}
 use Rattle.rows.proofs.Bits.{bit_xor_lem, bit_all, bit_mask}
 
@@ -146,36 +145,14 @@ plane_more l i e h u =
     take-suc (drop i l) (e - i) 0 w ∙
     ap (λ (k : ℕ). plane_of l i e ++ (k ∷ [])) (get_or-drop i l (e - i) 0 ∙ ap (λ (m : ℕ). get_or l m 0) v)
 
--- the keys from a place on, as a part of the list
-abbrev pub rest_of : List ℕ → ℕ → List ℕ
-rest_of l i = take (length l - i) (drop i l)
+-- what holds of all keys from a place on holds of each of them
+pub all_from : (Q : ℕ → Type 0) (l : List ℕ) (i e : ℕ) → All Q (drop i l) → i ≤ e → e < length l → Q (get_or l e 0)
+all_from Q l i e h u v =
+    let there : i + (e - i) ≡ e = omega arith in
+    let q = all_begins Q (drop i l) (e - i) (all_drop Q (e - i) (drop i l) h) (omega (arith, length-drop i l)) in
+    subst Q (get_or-drop i l (e - i) 0 ∙ ap (λ (m : ℕ). get_or l m 0) there) q
 
-module _ (l : List ℕ) (i : ℕ) where
-  rest_is : rest_of l i ≡ drop i l
-  rest_is = take_all (length l - i) (drop i l) (omega (arith, length-drop i l))
-
-  rest_long : length (rest_of l i) ≡ length l - i
-  rest_long = ap length rest_is ∙ length-drop i l
-
-  module _ (k : ℕ) (h : k < length (rest_of l i)) where
-    rest_in : i + k < length l
-    rest_in = omega (arith, rest_long)
-
-    rest_at : get_or (rest_of l i) k 0 ≡ get_or l (i + k) 0
-    rest_at = ap (λ m. get_or m k 0) rest_is ∙ get_or-drop i l k 0
-
-    -- what holds of all keys from a place on holds of each of them
-    all_rest : (Q : ℕ → Type 0) → All Q (drop i l) → Q (get_or (rest_of l i) k 0)
-    all_rest Q a =
-        let lt : k < length (drop i l) = omega (arith, length-drop i l, rest_long) in
-        subst Q (ap (λ m. get_or m k 0) (sym rest_is)) (all_begins Q (drop i l) k (all_drop Q k (drop i l) a) lt)
-
-    -- its place in the row
-    pub rest_placed : (start limit words : ℕ) → All (λ k. (start ≤ k) × (k < limit → k < start + words)) (drop i l)
-        → (start ≤ get_or (rest_of l i) k 0) × (get_or (rest_of l i) k 0 < limit → get_or (rest_of l i) k 0 < start + words)
-    rest_placed start limit words a = all_rest (λ k. (start ≤ k) × (k < limit → k < start + words)) a
-
-took_none : (keys : List ℕ) (i start limit : ℕ) (row : List ℕ) → i ≤ length keys → From 0 keys → Took keys i start limit row row i
+pub took_none : (keys : List ℕ) (i start limit : ℕ) (row : List ℕ) → i ≤ length keys → From 0 keys → Took keys i start limit row row i
 took_none keys i start limit row h r =
     let n : i - i ≡ 0 = omega arith in
     record {
@@ -184,7 +161,7 @@ took_none keys i start limit row h r =
       bits = λ x u. ap (λ (m : ℕ). sum (λ k. leb (k - start) x) (take m (drop i keys)) ⊕ bit_at row x) (sym n);
     }
 
-took_one : {keys : List ℕ} {i start limit : ℕ} {before now : List ℕ} {e : ℕ} (now' : List ℕ) → Took keys i start limit before now e → e < length keys
+pub took_one : {keys : List ℕ} {i start limit : ℕ} {before now : List ℕ} {e : ℕ} (now' : List ℕ) → Took keys i start limit before now e → e < length keys
     → get_or keys e 0 < limit → Flipped (get_or keys e 0 - start) now now' → Took keys i start limit before now' (e + 1)
 took_one {keys} {i} {start} {limit} {before} {now} {e} now' t h u f =
     record {
@@ -201,31 +178,7 @@ took_one {keys} {i} {start} {limit} {before} {now} {e} now' t h u f =
           ap (sum (λ k. leb (k - start) x)) (sym (plane_more keys i e t.running.from h)));
     }
 
-took_all : {keys : List ℕ} {i start limit : ℕ} {before now : List ℕ} {e : ℕ} → Took keys i start limit before now e → All (λ k. limit ≤ k) (drop e keys)
+pub took_all : {keys : List ℕ} {i start limit : ℕ} {before now : List ℕ} {e : ℕ} → Took keys i start limit before now e → All (λ k. limit ≤ k) (drop e keys)
     → TookLine keys i start limit before now e
 took_all t h =
     record { from = t.running.from; upto = t.running.upto; in_it = t.running.under; left = h; long = t.long; bits = t.bits }
-
--- the same, over the keys from place i on
-module _ {keys : List ℕ} {i start limit : ℕ} where
-  pub took_begins : {row : List ℕ} → i ≤ length keys → From 0 keys → Took keys i start limit row row (i + 0)
-  took_begins {row} h r = rw add-zero (took_none keys i start limit row h r)
-
-  module _ {before now : List ℕ} {k : ℕ} (t : Took keys i start limit before now (i + k)) where
-    pub took_next : {now' : List ℕ} → k < length (rest_of keys i) → get_or (rest_of keys i) k 0 < limit
-        → Flipped (get_or (rest_of keys i) k 0 - start) now now' → Took keys i start limit before now' (i + (k + 1))
-    took_next {now'} h u f =
-        let e = rest_at keys i k h in
-        let next : i + k + 1 ≡ i + (k + 1) = omega arith in
-        subst (λ (m : ℕ). Took keys i start limit before now' m) next
-        (took_one now' t (rest_in keys i k h) (omega (arith, e)) (subst (λ (m : ℕ). Flipped (m - start) now now') e f))
-
-    pub took_stops : k < length (rest_of keys i) → limit ≤ get_or (rest_of keys i) k 0 → TookLine keys i start limit before now (i + k)
-    took_stops h u =
-        took_all t (run_stops keys i limit (i + k) t.running (rest_in keys i k h) (omega (arith, rest_at keys i k h))).3
-
-    pub took_ends : length (rest_of keys i) ≤ k → TookLine keys i start limit before now (length keys)
-    took_ends h =
-        let end : i + k ≡ length keys = omega (arith, rest_long keys i, t.running.from, t.running.upto) in
-        took_all (subst (λ (m : ℕ). Took keys i start limit before now m) end t)
-        (subst (All (λ k. limit ≤ k)) (sym (drop_of_length-le keys (omega arith))) tt)

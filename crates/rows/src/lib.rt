@@ -7,7 +7,8 @@ ghost use Rattle.meaning.specs.Counting.{All};
 ghost use Rattle.rising.specs.Merged.{From};
 ghost use Rattle.rows.specs.Rows.{holds_by, change, bit, Flipped, TookLine, PutOnes, PutLine};
 
-// The numbers of the operations; any other is exclusive or.
+// The numbers of the operations; any other is exclusive or. They are numbers here, and no enum: the wrong program joins/operation_five must be able
+// to hand on a 5.
 const UNION: u32 = 1;
 
 const OVERLAP: u32 = 2;
@@ -64,16 +65,19 @@ pub fn take_line(row: &mut [u64], keys: &[u32], i: usize, start: u32, limit: u32
     requires all { All (λ k. (start ≤ k) × (k < limit → k < start + 64 * length row.old)) (drop i keys.now) }
     ensures { TookLine keys.now i start limit row.old row.new result }
 {
-    for (passed, key) in keys[i..].iter().enumerate() {
-        if limit <= *key {
-            return i + passed;
+    // By places: a count beside an iterator makes a join some 6 % slower.
+    for e in i..keys.len() {
+        let key = keys[e];
+        if limit <= key {
+            return e;
         }
-        flip(row, (*key - start) as usize);
+        flip(row, (key - start) as usize);
     }
     keys.len()
 }
 
-// Puts out, behind n keys, a key for each one of a word, from a first key on, and answers how many keys that makes, whether they fit or not.
+// Puts out, behind n keys, a key for each one of a word, from a first key on, and answers how many keys that makes, whether they fit or not. A list that
+// grows is, without a heap, a lent slice and how many keys it has.
 fn put_ones(ones: u64, at: u32, out: &mut [u32], n: usize) -> usize
     requires { (at + 64 ≤ 2 ^ 32) × (n ≤ 2 ^ 62) }
     ensures { PutOnes ones at out.old n out.new result }

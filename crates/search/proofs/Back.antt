@@ -1,6 +1,6 @@
 -- Where a run of numbers with one high part begins.
 --   Back                       the numbers from a place on have the high part of the last of them
---   back_begins, back_on       the run goes back
+--   back_on                    the run goes back
 --   back_run, back_stops       where it begins
 -- Assumes nothing.
 use mathlib.Core.Path.{◌≡◌, refl, sym, ◌∙◌, ap}
@@ -23,10 +23,6 @@ pub record Back (unit : ℕ) (l : List ℕ) (i j : ℕ) : Type 0 where
   pub same : (k : ℕ) → j ≤ k → k < i → high unit (get_or l k 0) ≡ high unit (get_or l (i - 1) 0)
 
 module _ {unit : ℕ} {l : List ℕ} (u : 0 < unit) (rises : From 0 l) where
-  pub back_begins : {i : ℕ} → 0 < i → i ≤ length l → Back unit l i (i - 1)
-  back_begins {i} h k =
-      record { some = omega arith; within = k; same = λ n p q. let s : n ≡ i - 1 = omega arith in ap (λ m. high unit (get_or l m 0)) s }
-
   module _ {i j : ℕ} (b : Back unit l i j) where
     pub back_run : Run (high unit) l j i
     back_run = record { some = b.some; within = b.within; same = λ k p q. b.same k p q ∙ sym (b.same j (omega arith) b.some) }

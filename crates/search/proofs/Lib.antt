@@ -1,3 +1,4 @@
--- Laws: where a run begins (Back), and the planes of a map (Outwards).
+-- Laws: where a run begins (Back), the planes of a map (Outwards), and laws that no proof cites (Stated).
 pub mod Back
 pub mod Outwards
+pub mod Stated

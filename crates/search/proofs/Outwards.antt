@@ -2,26 +2,22 @@
 --   plane_rising, plane_pairs        the keys of a plane, less the plane's first, are its pairs, and they rise
 --   from_rising, run_on_list, edge_on_list     what is said of a list less 0 is said of the list
 --   Sunk, sunk-..                    the cells behind the planes below a place
---   pairs_front                      the pairs of some keys, brought to order
 --   section_cells, section_rising, section_few    the cells at the wish's focus, from either side of it
 -- Assumes nothing.
 use mathlib.Core.Path.{◌≡◌, refl, sym, ◌∙◌, ap, ap₂, subst}
 use mathlib.Core.Logic.{inl, inr}
 use mathlib.Core.Bool.{Bool, false, ◌&&◌}
-use mathlib.Core.List.{List, [], ◌∷◌, ◌++◌, map}
+use mathlib.Core.List.{List, [], ◌∷◌, map}
 use Prim.Native.Nat.{ℕ, suc, ◌+◌, ◌-◌, ◌*◌, ◌≤◌, ◌<◌}
 use native.Mathlib.Omega.{arith}
 use native.Mathlib.Nat.{div-add-mod', div-mul-le_self}
 use lib.Dec.{leb}
 use lib.ListN.{length, get_or, take, drop, take-append-drop}
-use lib.Seq.{take_at}
 use borrow.Author.Tests.{le-leb, lt-leb}
 use Rattle.meaning.proofs.Parity.{⊕_self, ⊕_cancel, sum, sum_append, sum_map}
 use Rattle.rising.specs.Merged.{From, less_base, norm}
-use Rattle.rising.specs.Placed.{Front}
 use Rattle.rising.proofs.Sums.{from_less, sum_norm, norm_from}
-use Rattle.rising.proofs.Order.{less_none, front_append, front_few}
-use Rattle.rising.proofs.Written.{Filling, filling_ends}
+use Rattle.rising.proofs.Order.{less_none, front_few}
 use Rattle.ranks.specs.declared.Scale.{Scale}
 use Rattle.ranks.specs.Values.{axis_codes, value, behind}
 use Rattle.cells.specs.Cells.{Best, Depth, Rank, Here, Turned, high, rest, high_at, Cut, Run, Edge, plane_unit}
@@ -85,11 +81,6 @@ edge_on_list unit code l i h = subst (λ (m : List ℕ). Edge (high unit) m code
 
 -- ---- from the wish outwards
 
--- a place up to which all high parts are at most a code is a cut
-pub edge_cut : (hi : ℕ → ℕ) (l : List ℕ) (code i : ℕ) → Edge hi l code i → Cut hi l i
-edge_cut hi l code i edge =
-    record { within = edge.within; apart = λ j k p q r. omega (arith, edge.upto j p, edge.beyond k q r) }
-
 -- the cells behind the runs from a place up to a bound
 pub record Sunk (unit : ℕ) (scale : Scale) (D : Depth) (l : List ℕ) (base to best i found : ℕ) : Type 0 where
   pub cut : Cut (high unit) l i
@@ -109,13 +100,6 @@ sunk_on {unit} {scale} {D} {l} {base} u rises sunk run before low h =
     }
 
 -- ---- the section at the wish
-
--- what is written of some keys to one slice, and brought to order there
-pub pairs_front : (f : ℕ → ℕ) (ks before : List ℕ) {now x : List ℕ} {n m : ℕ} → Filling (map f) ks before now n n → length ks ≤ n
-    → Front (norm (take n now)) x m → (r : List ℕ) → Front (norm (map f ks)) (x ++ r) m
-pairs_front f ks before {now} {x} {n} {m} w e h r =
-    let (c, s) = filling_ends (map f) ks before now n n w refl e in
-    subst (λ (l : List ℕ). Front (norm l) (x ++ r) m) (ap (take n) s ∙ take_at (map f ks) (drop n before) n (sym c)) (front_append h r)
 
 -- of an even list both sides have the same section
 other_side : (f : ℕ → Bool) (l : List ℕ) (place : ℕ) → sum f l ≡ false → sum f (take place l) ≡ sum f (drop place l)

@@ -6,11 +6,11 @@ ghost use Rattle.std.specs.Prelude.{map, ◌<◌, ◌≤◌, length};
 ghost use Rattle.rising.specs.Merged.{From, norm};
 ghost use Rattle.rising.specs.Placed.{Front};
 ghost use Rattle.cells.specs.Cells.{Best, Rank, Run, Cut, Edge, high, rest, section_in, map_in, plane_unit};
-ghost use Rattle.search.specs.Search.{Even, Scales, Above, Below, OneSide};
+ghost use Rattle.search.specs.Search.{Even, Above, Below, OneSide};
 
 use codes::PLANE;
-use ranks::{END, Scale, value_at, value_behind};
-use squares::{run_end, squares, upto};
+use ranks::{END, Scales};
+use squares::RisingList;
 
 // Where the run of numbers with the high part of the one before place i begins.
 fn run_start(list: &[u32], i: usize, unit: u32) -> usize
@@ -52,19 +52,15 @@ fn section(keys: &[u32], place: usize, room: &mut [u32], work: &mut [u32]) -> us
 }
 
 // The least of best and the ranks of the cells just behind the planes from a place up, where all planes lie above the wish's focus.
-fn planes_above(
-    keys: &[u32],
-    place: usize,
-    focus: Scale,
-    first: Scale,
-    second: Scale,
-    best: u64,
-) -> u64
+fn planes_above(keys: &[u32], place: usize, scales: Scales, best: u64) -> u64
     requires from { From 0 keys.now }
-    requires scales { Scales focus first second }
-    requires edge { Edge (high plane_unit) keys.now focus.wish place }
-    ensures { Best (Above focus first second keys.now place) best result }
+    requires edge { Edge (high plane_unit) keys.now scales.focus.wish place }
+    ensures { Best (Above scales keys.now place) best result }
 {
+    let rising = RisingList {
+        list: keys,
+        base: 0,
+    };
     let mut found = best;
     // By an index: `run_end` says where a plane ends, at one difference a key; `chunk_by` would divide at each two neighbours.
     let mut i = place;
@@ -73,73 +69,66 @@ fn planes_above(
         if END <= number {
             return found;
         }
-        let rank = value_behind(focus, number);
+        let rank = scales.focus.value_behind(number);
         if found <= rank {
             return found;
         }
-        let e = run_end(keys, 0, i, PLANE);
-        found = squares(&keys[i..e], number * PLANE, first, second, rank, found);
+        let e = rising.run_end(i, PLANE);
+        let pairs = RisingList {
+            list: &keys[i..e],
+            base: number * PLANE,
+        };
+        found = pairs.squares(scales, rank, found);
         i = e;
     }
     found
 }
 
 // The same of the planes below a place, where none lies above the wish's focus.
-fn planes_below(
-    keys: &[u32],
-    place: usize,
-    focus: Scale,
-    first: Scale,
-    second: Scale,
-    best: u64,
-) -> u64
+fn planes_below(keys: &[u32], place: usize, scales: Scales, best: u64) -> u64
     requires from { From 0 keys.now }
-    requires scales { Scales focus first second }
-    requires edge { Edge (high plane_unit) keys.now focus.wish place }
-    ensures { Best (Below focus first second keys.now place) best result }
+    requires edge { Edge (high plane_unit) keys.now scales.focus.wish place }
+    ensures { Best (Below scales keys.now place) best result }
 {
     let mut found = best;
     // By an index: from plane to plane downward, and no method of a slice goes by runs from its end.
     let mut i = place;
     while 0 < i {
         let number = keys[i - 1] / PLANE;
-        let rank = value_behind(focus, number);
+        let rank = scales.focus.value_behind(number);
         if found <= rank {
             return found;
         }
         let j = run_start(keys, i, PLANE);
-        found = squares(&keys[j..i], number * PLANE, first, second, rank, found);
+        let pairs = RisingList {
+            list: &keys[j..i],
+            base: number * PLANE,
+        };
+        found = pairs.squares(scales, rank, found);
         i = j;
     }
     found
 }
 
 // The least of best and the ranks of all cells of a map; room is for the section at the wish's focus, work to order it.
-pub fn planes(
-    keys: &[u32],
-    focus: Scale,
-    first: Scale,
-    second: Scale,
-    best: u64,
-    room: &mut [u32],
-    work: &mut [u32],
-) -> u64
+pub fn planes(keys: &[u32], scales: Scales, best: u64, room: &mut [u32], work: &mut [u32]) -> u64
     requires from { From 0 keys.now }
-    requires even { Even (section_in first second) keys.now }
-    requires scales { Scales focus first second }
+    requires even { Even (section_in scales.first scales.second) keys.now }
     requires keys_in_bounds { (length keys.now ≤ length room.old) × (length keys.now ≤ length work.old) }
-    ensures { Best (Rank (map_in focus first second) keys.now 0) best result }
+    ensures { Best (Rank (map_in scales.focus scales.first scales.second) keys.now 0) best result }
 {
-    let place = upto(keys, 0, focus.wish, PLANE);
+    let rising = RisingList {
+        list: keys,
+        base: 0,
+    };
+    let place = rising.upto(scales.focus.wish, PLANE);
     let n = section(keys, place, room, work);
-    let at_wish = squares(
-        &room[..n],
-        0,
-        first,
-        second,
-        value_at(focus, focus.wish),
-        best,
-    );
-    let above = planes_above(keys, place, focus, first, second, at_wish);
-    planes_below(keys, place, focus, first, second, above)
+    let rank = scales.focus.value_at(scales.focus.wish);
+    let pairs = RisingList {
+        list: &room[..n],
+        base: 0,
+    };
+    let at_wish = pairs.squares(scales, rank, best);
+    let above = planes_above(keys, place, scales, at_wish);
+    planes_below(keys, place, scales, above)
 }

@@ -3,9 +3,9 @@
 --   map_take, map_drop               parts of a list of which every member is changed
 --   sum_places, sum_upto, sum_run    sums of which all that counts stands at the front, or in a run
 --   run_of, take_run, run_at          the part of a list from one place to below another
---   less_run, above_run, above_take  parts of a list that counts from a base
+--   less_run, above_run              parts of a list that counts from a base
 --   once                             the rests of a run are all different
---   run_begins, run_goes_on, run_stops, run_ends     where a run ends
+--   run_goes_on, run_stops, run_ends     where a run ends
 --   less_le, edge_at                 the numbers up to a code
 --   high_in, high_out                the high part at a place
 -- Assumes nothing.
@@ -121,9 +121,6 @@ above_run base l i e h a k p =
     let q : k < e - i = omega (arith, length_run l i e h) in
     omega (arith, run_at l i e k q, a (i + k) (omega arith))
 
-pub above_take : (base : ℕ) (l : List ℕ) (n : ℕ) → Above base l → Above base (take n l)
-above_take base l n a k p = let s = length-take n l in omega (arith, get_or-take n l k 0 (omega arith), a k (omega arith))
-
 -- a sum of which all that counts stands in a run
 pub sum_run : (f g : ℕ → Bool) (l : List ℕ) (i e : ℕ) → i ≤ e → e ≤ length l
     → ((j : ℕ) → j < i → f (get_or l j 0) ≡ false)
@@ -198,10 +195,6 @@ module _ (unit : ℕ) (u : 0 < unit) (y z : ℕ) where
       omega arith
 
 module _ (unit : ℕ) (u : 0 < unit) {l : List ℕ} (rises : From 0 l) {i : ℕ} where
-  pub run_begins : i < length l → Run (high unit) l i (i + 1)
-  run_begins h =
-      record { some = omega arith; within = omega arith; same = λ k p q. let s : k ≡ i = omega arith in ap (λ n. high unit (get_or l n 0)) s }
-
   -- the number at the run's begin is y, the one behind it z
   module _ {e : ℕ} (run : Run (high unit) l i e) (y z : ℕ) (first : get_or l i 0 ≡ y) (next : get_or l e 0 ≡ z) where
     start : get_or l i 0 / unit * unit ≡ y / unit * unit

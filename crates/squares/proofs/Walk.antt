@@ -16,7 +16,7 @@ use borrow.Author.Tests.{ltb-true, ltb-false, le-leb, lt-leb, eqb-true, eq-eqb, 
 use Rattle.meaning.proofs.Parity.{sum, sum_map}
 use Rattle.rising.specs.Merged.{From}
 use Rattle.ranks.specs.declared.Scale.{Scale}
-use Rattle.ranks.specs.Values.{axis_codes, value, behind, Sound}
+use Rattle.ranks.specs.Values.{axis_codes, value, behind}
 use Rattle.ranks.proofs.Costs.{value_away, behind_above, behind_upto}
 use Rattle.cells.specs.Cells.{Best, Depth, Rank, Part, Here, Turned, high, rest, high_at, Cut, Run, Edge}
 use Rattle.cells.proofs.Best.{best_same}
@@ -103,10 +103,10 @@ module _ (unit : ℕ) (scale : Scale) (D : Depth) (l : List ℕ) (base : ℕ) (u
           Own q = Part (λ k. eqb (high unit k) number) (rest unit) D l (base + value scale (behind scale.wish number)) q
 
   -- from a place up, where all high parts lie above the wish's code
-  pub turned_above : (sound : Sound scale) {i m : ℕ} → i < length l → scale.wish < high unit (get_or l i 0)
+  pub turned_above : {i m : ℕ} → i < length l → scale.wish < high unit (get_or l i 0)
       → m ≤ base + value scale (behind scale.wish (high unit (get_or l i 0)))
       → Best (Turned unit scale D l (high_at (high unit) l i) axis_codes base) m m
-  turned_above sound {i} {m} h k best = turned_stop (λ e t p q n. worse e p q)
+  turned_above {i} {m} h k best = turned_stop (λ e t p q n. worse e p q)
     where
       w : ℕ
       w = scale.wish
@@ -117,13 +117,13 @@ module _ (unit : ℕ) (scale : Scale) (D : Depth) (l : List ℕ) (base : ℕ) (u
           let a : high unit (get_or l i 0) ≤ e = omega arith in
           let x = ap (value scale) (behind_above w (high unit (get_or l i 0)) k) in
           let y = ap (value scale) (behind_above w e (omega arith)) in
-          omega (arith, x, y, (value_away scale sound).up (high unit (get_or l i 0)) e (omega arith) a)
+          omega (arith, x, y, (value_away scale).up (high unit (get_or l i 0)) e (omega arith) a)
 
   -- below a place, where the high part before it lies at or below the wish's code
-  pub turned_below : (sound : Sound scale) {i m : ℕ} → 0 < i → i ≤ length l → high unit (get_or l (i - 1) 0) ≤ scale.wish
+  pub turned_below : {i m : ℕ} → 0 < i → i ≤ length l → high unit (get_or l (i - 1) 0) ≤ scale.wish
       → m ≤ base + value scale (behind scale.wish (high unit (get_or l (i - 1) 0)))
       → Best (Turned unit scale D l 0 (high_at (high unit) l i) base) m m
-  turned_below sound {i} {m} h n k best = turned_stop (λ e t p q s. worse e (member_at unit D l e t s) q)
+  turned_below {i} {m} h n k best = turned_stop (λ e t p q s. worse e (member_at unit D l e t s) q)
     where
       w : ℕ
       w = scale.wish
@@ -139,7 +139,7 @@ module _ (unit : ℕ) (scale : Scale) (D : Depth) (l : List ℕ) (base : ℕ) (u
               let a = high_mono unit u l rises j (i - 1) (omega (arith, ltb-true j i t)) (omega arith) in
               let x = ap (value scale) (behind_upto w last k) in
               let y = ap (value scale) (behind_upto w e (omega arith)) in
-              omega (arith, x, y, (value_away scale sound).down (e - 1) (last - 1) (omega arith) (omega arith))
+              omega (arith, x, y, (value_away scale).down (e - 1) (last - 1) (omega arith) (omega arith))
           go false t = absurd (omega (arith, from_place unit l u rises i j (ltb-false j i t) p))
 
 -- the cells behind the runs from a bound up to a place

@@ -4,75 +4,89 @@
 
 ghost use Rattle.std.specs.Prelude.{◌<◌, ◌≤◌, ◌^◌, length};
 ghost use Rattle.rising.specs.Merged.{less_base};
-ghost use Rattle.ranks.specs.Values.{axis_codes, Sound};
+ghost use Rattle.ranks.specs.Values.{axis_codes};
 ghost use Rattle.cells.specs.Cells.{Best, Rank, Edge, high, section_in, plane_unit};
-ghost use Rattle.squares.specs.Rising.{Rising, RunTo, BehindLines};
+ghost use Rattle.squares.specs.Rising.{Rising, rising_prop, RunTo, BehindLines};
 
-use cells::{joint_line, own_line};
+use cells::Pairs;
 use codes::LINE;
-use ranks::{END, Scale, value_at, value_behind};
+use ranks::{END, Scales};
 
-// Where the run of numbers with the high part of the one at place i ends; all count from a base.
-pub fn run_end(list: &[u32], base: u32, i: usize, unit: u32) -> usize
-    requires unit_nonzero { 0 < unit }
-    requires rising { Rising base list.now }
-    requires i_in_bounds { i < length list.now }
-    ensures { RunTo unit base list.now i result }
-{
-    let low = (list[i] - base) / unit * unit;
-    for e in i + 1..list.len() {
-        if unit <= list[e] - base - low {
-            return e;
+// A rising list of numbers that count from a base.
+#[derive(Clone, Copy)]
+pub struct RisingList<'a> {
+    pub list: &'a [u32],
+    pub base: u32,
+    pub ghost rising: { Rising base list.now } by { rising_prop base list.now },
+}
+
+impl RisingList<'_> {
+    // Where the run of numbers with the high part of the one at place i ends.
+    pub fn run_end(self, i: usize, unit: u32) -> usize
+        requires unit_nonzero { 0 < unit }
+        requires i_in_bounds { i < length self.list.now }
+        ensures { RunTo unit self.entry.base self.entry.list.now i result }
+    {
+        let low = (self.list[i] - self.base) / unit * unit;
+        for e in i + 1..self.list.len() {
+            if unit <= self.list[e] - self.base - low {
+                return e;
+            }
         }
+        self.list.len()
     }
-    list.len()
-}
 
-// How many numbers have a high part of at most a code; all count from a base.
-pub fn upto(list: &[u32], base: u32, code: u32, unit: u32) -> usize
-    requires unit_nonzero { (0 < unit) × (unit ≤ plane_unit) × (code < axis_codes) }
-    requires rising { Rising base list.now }
-    ensures { Edge (high unit) (less_base base list.now) code result }
-{
-    let bound = (code + 1) * unit;
-    list.partition_point(|key| key.saturating_sub(base) < bound)
-}
+    // How many of the numbers have a high part of at most a code.
+    pub fn upto(self, code: u32, unit: u32) -> usize
+        requires { (0 < unit) × (unit ≤ plane_unit) × (code < axis_codes) }
+        ensures { Edge (high unit) (less_base self.entry.base self.entry.list.now) code result }
+    {
+        let base = self.base;
+        let bound = (code + 1) * unit;
+        self.list
+            .partition_point(|key| key.saturating_sub(base) < bound)
+    }
 
-// The least of best and the ranks, from a base up, of the squares just behind the lines that some pairs lie on.
-fn own_lines(pairs: &[u32], base: u32, first: Scale, second: Scale, rank: u64, best: u64) -> u64
-    requires rising { Rising base pairs.now }
-    requires sound { Sound first × Sound second }
-    requires rank_bound { rank < 2 ^ 50 }
-    ensures { Best (BehindLines first second (less_base base pairs.now) rank) best result }
-{
-    let mut found = best;
-    // By an index: `run_end` says where a run ends, at one difference a number; `chunk_by` would divide at each two neighbours.
-    let mut i = 0;
-    while i < pairs.len() {
-        let line = (pairs[i] - base) / LINE;
-        if END <= line {
-            return found;
+    // The least of best and the ranks, from rank up, of the squares just behind the lines that the pairs lie on.
+    fn own_lines(self, scales: Scales, rank: u64, best: u64) -> u64
+        requires { rank < 2 ^ 50 }
+        ensures { Best (BehindLines scales (less_base self.entry.base self.entry.list.now) rank) best result }
+    {
+        let mut found = best;
+        // By an index: `run_end` says where a run ends, at one difference a number; `chunk_by` would divide at each two neighbours.
+        let mut i = 0;
+        while i < self.list.len() {
+            let line = (self.list[i] - self.base) / LINE;
+            if END <= line {
+                return found;
+            }
+            let e = self.run_end(i, LINE);
+            let near = rank + scales.first.value_behind(line);
+            let own = Pairs {
+                list: &self.list[i..e],
+                base: self.base,
+            };
+            found = own.own_line(scales.second, near, found);
+            i = e;
         }
-        let e = run_end(pairs, base, i, LINE);
-        let near = rank + value_behind(first, line);
-        found = own_line(&pairs[i..e], base, second, near, found);
-        i = e;
+        found
     }
-    found
-}
 
-// The least of best and the ranks, from a base up, of all squares of some pairs.
-pub fn squares(pairs: &[u32], base: u32, first: Scale, second: Scale, rank: u64, best: u64) -> u64
-    requires rising { Rising base pairs.now }
-    requires sound { Sound first × Sound second }
-    requires rank_bound { rank < 2 ^ 50 }
-    ensures { Best (Rank (section_in first second) (less_base base pairs.now) rank) best result }
-{
-    if best <= rank {
-        return best;
+    // The least of best and the ranks, from rank up, of all squares of the pairs.
+    pub fn squares(self, scales: Scales, rank: u64, best: u64) -> u64
+        requires { rank < 2 ^ 50 }
+        ensures { Best (Rank (section_in scales.first scales.second) (less_base self.entry.base self.entry.list.now) rank) best result }
+    {
+        if best <= rank {
+            return best;
+        }
+        let place = self.upto(scales.first.wish, LINE);
+        let at_wish = rank + scales.first.value_at(scales.first.wish);
+        let front = Pairs {
+            list: &self.list[..place],
+            base: self.base,
+        };
+        let found = front.joint_line(scales.second, at_wish, best);
+        self.own_lines(scales, rank, found)
     }
-    let place = upto(pairs, base, first.wish, LINE);
-    let at_wish = rank + value_at(first, first.wish);
-    let found = joint_line(&pairs[..place], base, second, at_wish, best);
-    own_lines(pairs, base, first, second, rank, found)
 }

@@ -2,6 +2,7 @@
 --   result_keys      a rising list of keys in range that means the operation is the one list's
 --   one_means        the keys of the one list mean the operation
 --   swept, swept_short, merged_result   what a sweep with and without room, and a merge, show of the one list
+--   map_valid, map_read     the vertices of a travel map are a valid list; working room that a travel map was read into
 --   done, short      what the two ends of a join in working room leave
 -- Assumes nothing.
 use mathlib.Core.Path.{◌≡◌, refl, sym, ◌∙◌, ap, ap₂, subst, subst₂}
@@ -16,7 +17,10 @@ use lib.IntN.{ℤ}
 use lib.ListN.{length, take, drop, length-map}
 use lib.Seq.{length-take-le}
 use borrow.Author.Tests.{leb-true, leb-false}
-use Rattle.meaning.specs.Numbers.{Cell, Corner, cell, number}
+use Rattle.std.specs.Prelude.{None, Some}
+use Rattle.meaning.specs.Numbers.{cell, number}
+use Rattle.meaning.specs.declared.Cell.{Cell}
+use Rattle.meaning.specs.declared.Corner.{Corner}
 use Rattle.meaning.specs.Counting.{All}
 use Rattle.meaning.specs.Lists.{vertices, numbers, permitted, most_vertices, Valid}
 use Rattle.meaning.specs.OneList.{WithinCodes}
@@ -25,7 +29,9 @@ use Rattle.meaning.proofs.Parity.{◌⊕◌, sum, sum_ext, odd_count}
 use Rattle.meaning.proofs.Space.{all_map}
 use Rattle.meaning.proofs.Maps.{valid_within, one_permits, one_rising, one_corners}
 use Rattle.meaning.proofs.Making.{join_within}
+use Rattle.meaning.proofs.Checked.{verdict_valid}
 use Rattle.codes.specs.Keys.{key_of, of_key}
+use Rattle.lists.specs.declared.TravelMap.{TravelMap}
 use Rattle.keys.specs.Parts.{KeyOk, key_fits}
 use Rattle.keys.proofs.Corners.{keys_ok, keys_rise, permitted_corners, one_keys_lem}
 use Rattle.rising.specs.Merged.{From, merged}
@@ -146,6 +152,13 @@ pub was_read : (a : List ℤ) (n : ℕ) (old k : List ℕ) → Valid (vertices a
 was_read a n old k v e =
     record { valid = v; count = e.0; front = front_of n (map key_of (vertices a)) old k (e.0 ∙ sym (length-map (vertices a) key_of)) e.1 }
 
+pub map_valid : (m : TravelMap) → Valid (vertices m.list.now)
+map_valid m = ((verdict_valid m.list.now).0 m.passes).1
+
+pub map_read : (m : TravelMap) (n : ℕ) (old k : List ℕ) → (n ≡ length (vertices m.list.now)) × (k ≡ map key_of (vertices m.list.now) ++ drop n old)
+    → Read m.list.now n k
+map_read m n old k = was_read m.list.now n old k (map_valid m)
+
 module _ {a : List ℤ} {n : ℕ} {k : List ℕ} (r : Read a n k) where
   pub part : n ≡ length (take n k)
   part = r.count ∙ sym (ap length r.front ∙ length-map (vertices a) key_of)
@@ -179,17 +192,17 @@ module _ (op most : ℕ) {a b : List ℤ} {ra rb : ℕ} {ka kb : List ℕ} (x : 
       (swept op o is a b x.valid y.valid kr now n on_keys h)
 
   pub done : {before after : List ℤ} → n ≤ most → after ≡ numbers (map of_key (take n now)) ++ drop (3 * length (take n now)) before
-      → InRoom op a b most before n after
+      → InRoom op a b most before (Some n) after
   done {before} {after} h w o is =
       let e = swept op o is a b x.valid y.valid kr now n on_keys (omega arith) in
       let l = whole (omega arith) o is in
       record {
-        fits = λ u. (l, w ∙ ap₂ (λ x k. numbers x ++ drop (3 * k) before) e (length-take-le n now (fits h) ∙ l));
+        fits = λ u. (ap Some l, w ∙ ap₂ (λ x k. numbers x ++ drop (3 * k) before) e (length-take-le n now (fits h) ∙ l));
         short = λ u. absurd (omega arith);
       }
 
-  pub short : {before : List ℤ} → most < n → InRoom op a b most before n before
-  short {before} h o is = let u = longer (leb n (length kr)) refl in record { fits = λ v. absurd (omega arith); short = λ v. (h, refl) }
+  pub short : {before : List ℤ} → most < n → InRoom op a b most before None before
+  short {before} h o is = let u = longer (leb n (length kr)) refl in record { fits = λ v. absurd (omega arith); short = λ v. (refl, refl) }
     where
       longer : (t : Bool) → leb n (length kr) ≡ t → most < length (joined_list o a b)
       longer true t = omega (arith, whole (leb-true n (length kr) t) o is)

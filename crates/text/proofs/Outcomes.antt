@@ -1,6 +1,5 @@
 -- What the input comes to, and what is put out for it.
 --   too_long_lem, not_long           by the bytes of the input
---   read_long, read_count        the numbers and the vertices of a map, by how many frames were read
 --   put_refusal, put_answers     one 06 line; the 05 lines
 --   wishes_refused, wishes_answered, map_refused, map_answered, bytes_refused     the same of the whole response
 use mathlib.Core.Path.{◌≡◌, refl, sym, ◌∙◌, ap, subst}
@@ -33,15 +32,6 @@ module _ (s : List ℕ) where
   pub not_long : length s ≤ 19214 → with_map s (map_text s) ≡ response s
   not_long h = by_bytes false (le-ltb 19214 (length s) h)
 
--- ---- a map that is read whole
-
--- the numbers of n frames at the front of a list that has room for them
-pub read_long : (n : ℕ) (l : List ℤ) → 3 * n ≤ length l → length (take (3 * n) l) ≡ 3 * n
-read_long n l h = length-take-le (3 * n) l h
-
-pub read_count : (n : ℕ) (l : List ℤ) → 3 * n ≤ length l → length (vertices (take (3 * n) l)) ≡ n
-read_count n l h = omega (arith, length_vertices (take (3 * n) l), read_long n l h)
-
 -- ---- what is put out
 
 pub put_refusal : (a b : ℕ) {before after : List ℕ} {n : ℕ} → Filled (refusal_line a b) before n after → Put (refusal a b) before n after
@@ -62,25 +52,24 @@ put_answers ns ws {before} {after} {r} er h w =
           ap (take r after ++◌) (subst (λ k. drop k after ≡ drop k before) (sym er) w.behind ∙ ap (λ k. drop k before) (sym long));
     }
 
--- the same after the wishes, and after the map
-module _ (ns : List ℤ) {o : Text} {before after : List ℕ} {n : ℕ} where
-  pub wishes_refused : {a b : ℕ} → refused a b ≡ o → Filled (refusal_line a b) before n after → Put (with_wishes ns o) before n after
-  wishes_refused e f = subst (λ p. Put (with_wishes ns p) before n after) e (put_refusal _ _ f)
+-- the same of the wishes behind a map, which begin behind as many vertices as it has, and of the map
+module _ (s : List ℕ) (ns : List ℤ) {before after : List ℕ} {r n : ℕ} (en : n ≡ length ns / 3) where
+  behind : {o : Text} → o ≡ wish_text s n → Put (with_wishes ns o) before r after → Put (with_map s (whole ns)) before r after
+  behind e p = subst (λ o. Put (with_wishes ns o) before r after) (e ∙ ap (wish_text s) (en ∙ sym (length_vertices ns))) p
 
-  pub wishes_answered : {ws : List ℤ} → whole ws ≡ o → n ≡ 17 * (length ws / 3) → 17 * (length ws / 3) ≤ length before
-      → Written (vertices ns) ws (length ws / 3) before after → Put (with_wishes ns o) before n after
-  wishes_answered {ws} e en h w = subst (λ p. Put (with_wishes ns p) before n after) e (put_answers ns ws en h w)
+  pub wishes_refused : {a b : ℕ} → refused a b ≡ wish_text s n → Filled (refusal_line a b) before r after → Put (with_map s (whole ns)) before r after
+  wishes_refused e f = behind e (put_refusal _ _ f)
+
+  pub wishes_answered : {ws : List ℤ} → whole ws ≡ wish_text s n → r ≡ 17 * (length ws / 3) → 17 * (length ws / 3) ≤ length before
+      → Written (vertices ns) ws (length ws / 3) before after → Put (with_map s (whole ns)) before r after
+  wishes_answered {ws} e er h w = behind e (put_answers ns ws er h w)
 
 module _ (s : List ℕ) (short : length s ≤ 19214) {before after : List ℕ} {r : ℕ} where
-  pub map_refused : {a b : ℕ} → refused a b ≡ map_text s → Filled (refusal_line a b) before r after → Put (response s) before r after
-  map_refused e f =
-      subst (λ o. Put o before r after) (ap (with_map s) e ∙ not_long s short) (put_refusal _ _ f)
+  pub map_answered : {o : Text} → o ≡ map_text s → Put (with_map s o) before r after → Put (response s) before r after
+  map_answered e p = subst (λ o. Put o before r after) (ap (with_map s) e ∙ not_long s short) p
 
-  pub map_answered : (n : ℕ) (l : List ℤ) → 3 * n ≤ length l → whole (take (3 * n) l) ≡ map_text s
-      → Put (with_wishes (take (3 * n) l) (wish_text s n)) before r after → Put (response s) before r after
-  map_answered n l h e p =
-      subst (λ o. Put o before r after)
-      (ap (λ k. with_wishes (take (3 * n) l) (wish_text s k)) (sym (read_count n l h)) ∙ ap (with_map s) e ∙ not_long s short) p
+  pub map_refused : {a b : ℕ} → refused a b ≡ map_text s → Filled (refusal_line a b) before r after → Put (response s) before r after
+  map_refused e f = map_answered e (put_refusal _ _ f)
 
 pub bytes_refused : (s : List ℕ) {before after : List ℕ} {r : ℕ} → 19214 < length s → Filled (refusal_line too_long 0) before r after
     → Put (response s) before r after

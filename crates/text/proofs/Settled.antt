@@ -9,7 +9,8 @@ use Prim.Native.Nat.{ℕ, zero, suc, ◌/◌, ◌≤◌}
 use native.Mathlib.Omega.{arith}
 use lib.IntN.{ℤ}
 use lib.ListN.{length, drop, length-append}
-use Rattle.meaning.specs.Numbers.{Cell, Corner}
+use Rattle.meaning.specs.declared.Cell.{Cell}
+use Rattle.meaning.specs.declared.Corner.{Corner}
 use Rattle.meaning.specs.Lists.{vertices, permitted, most_vertices}
 use Rattle.meaning.specs.Outcomes.{front}
 use Rattle.meaning.proofs.Closest.{nearest_unique}

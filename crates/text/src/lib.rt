@@ -3,13 +3,12 @@
 #![tactic(auto)]
 
 ghost use Rattle.std.specs.Prelude.{◌≡◌, ◌≤◌, length};
-ghost use Rattle.meaning.specs.Verdicts.{verdict};
-ghost use Rattle.reading.specs.Reading.{wish_text};
-ghost use Rattle.text.specs.Program.{with_wishes, Put, Responds};
+ghost use Rattle.reading.specs.Reading.{whole};
+ghost use Rattle.text.specs.Program.{with_map, Put, Responds};
 
 use answers::ANSWER_LINE;
-use frames::NUMBERS;
-use meaning::{MOST_VERTICES, Verdict};
+use lists::TravelMap;
+use meaning::{MOST_VERTICES, NUMBERS};
 use reading::{LONG_LINE, MAP_NUMBERS, MOST_WISHES, SHORT_LINE, WISH_NUMBERS};
 
 // The most bytes of input: the lines of a full map and of the most wishes.
@@ -18,27 +17,24 @@ pub const MOST_BYTES: usize = 2 * SHORT_LINE + LONG_LINE * (MOST_VERTICES + MOST
 // The most bytes that are written: an answer to each of the most wishes.
 pub const MOST_WRITTEN: usize = ANSWER_LINE * MOST_WISHES;
 
-// The refusal of input that is too long.
+// The number of the refusal of input that is too long: one case, with no place, needs no type.
 const TOO_LONG: usize = 12;
 
-// Writes the answers to the wishes behind a map of n vertices, or the refusal of their text; answers how many bytes are written.
+// Writes the answers to the wishes behind a map, or the refusal of their text; answers how many bytes are written.
 #[tactic(auto, using(crate::proofs::Outcomes::wishes_refused))]
-fn answer_wishes(input: &[u8], n: usize, list: &[i16], out: &mut [u8]) -> usize
-    requires n_bound { n ≤ 1024 }
-    requires valid { verdict list.now ≡ Verdict.Valid }
-    requires in_bounds { 4352 ≤ length out.old }
-    ensures { Put (with_wishes list.now (wish_text input.now n))
-        out.old result out.new }
+fn answer_wishes(input: &[u8], map: TravelMap, out: &mut [u8]) -> usize
+    requires { 4352 ≤ length out.old }
+    ensures { Put (with_map input.now (whole map.entry.list.now)) out.old result out.new }
 {
     let mut wishes = [0i16; WISH_NUMBERS];
-    match reading::read_wishes(input, n, &mut wishes) {
-        Ok(count) => answers::answer_all(list, &wishes[..NUMBERS * count], out),
+    match reading::read_wishes(input, map.list.len() / NUMBERS, &mut wishes) {
+        Ok(count) => answers::answer_all(map, &wishes[..NUMBERS * count], out),
         Err(refused) => answers::refuse(refused.number(), refused.place(), out),
     }
 }
 
 // Writes what the program answers to an input to the front of out; answers how many bytes that is.
-#[tactic(auto, using(crate::proofs::Outcomes::bytes_refused, crate::proofs::Outcomes::map_refused, crate::proofs::Outcomes::map_answered))]
+#[tactic(auto, using(crate::proofs::Outcomes::bytes_refused, crate::proofs::Outcomes::map_refused))]
 pub fn respond(input: &[u8], out: &mut [u8; MOST_WRITTEN]) -> usize
     ensures { Responds input.now out.old result out.new }
 {
@@ -47,7 +43,10 @@ pub fn respond(input: &[u8], out: &mut [u8; MOST_WRITTEN]) -> usize
     }
     let mut list = [0i16; MAP_NUMBERS];
     match reading::read_map(input, &mut list) {
-        Ok(n) => answer_wishes(input, n, &list[..NUMBERS * n], out),
+        Ok(n) => {
+            let list = &list[..NUMBERS * n];
+            answer_wishes(input, TravelMap { list }, out)
+        }
         Err(refused) => answers::refuse(refused.number(), refused.place(), out),
     }
 }

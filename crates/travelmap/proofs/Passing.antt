@@ -14,32 +14,28 @@ use lib.IntN.{ℤ}
 use mir.Syntax.{w16}
 use mir.Val.{SFits, to_z, of_z}
 use mir.ValLaws.{to_z-of_z}
-use Rattle.meaning.specs.Numbers.{Cell, Corner, cell, corner}
+use Rattle.meaning.specs.Numbers.{cell, corner}
+use Rattle.meaning.specs.declared.Cell.{Cell}
+use Rattle.meaning.specs.declared.Corner.{Corner}
 use Rattle.meaning.specs.Counting.{count}
 use Rattle.meaning.specs.Lists.{vertices, permitted, surrounding, most_vertices}
-use Rattle.meaning.specs.Verdicts.{verdict, passes, refusal_place}
-use Rattle.meaning.specs.Outcomes.{Values, Outcome, outcome, Nothing, nothing, done, refused, kept, verdict_values}
-use Rattle.meaning.specs.Nearest.{Reached}
-use Rattle.meaning.specs.declared.Verdict.{Verdict}
+use Rattle.meaning.specs.Verdicts.{Verdict, verdict, passes, refusal_place}
+use Rattle.meaning.specs.Outcomes.{Values, Outcome, outcome, Nothing, nothing, done, kept, checked, verdict_values}
+use Rattle.meaning.specs.declared.Reached.{Reached}
+use Rattle.std.specs.Prelude.{Result, Ok, Err}
+use Rattle.meaning.specs.declared.Refusal.{Refusal}
 use Rattle.lists.specs.Check.{Checked}
 use Rattle.lists.proofs.Verdicts.{checked_verdict}
-use Rattle.boxes.specs.Box.{box_values, BoxMade}
-use Rattle.boxes.specs.declared.Boxed.{Boxed}
+use Rattle.boxes.specs.Box.{Boxed, box_values, BoxMade}
 use Rattle.asks.specs.Asks.{cell_values, cell_says, cell_outcome, CellPromise, report, report_on, corner_says, corner_outcome, CornerPromise, plane_ends, EndsPromise, through_plane}
-use Rattle.asks.specs.declared.CellAnswer.{CellAnswer}
-use Rattle.asks.specs.declared.CornerAnswer.{CornerAnswer}
+use Rattle.asks.specs.declared.Report.{Report}
 use Rattle.asks.specs.declared.Ends.{Ends}
 use Rattle.asks.proofs.Planes.{count_le}
 use Rattle.asks.proofs.Answers.{passes_map, ends_within}
-use Rattle.joins.specs.Join.{join_values, JoinMade}
-use Rattle.joins.specs.declared.Joining.{Joining}
-use Rattle.cuts.specs.Answers.{section_values, SectionPromise, split_values, SplitPromise}
-use Rattle.cuts.specs.declared.Sectioned.{Sectioned}
-use Rattle.cuts.specs.declared.Halved.{Halved}
-use Rattle.nearest.specs.Answer.{found_values, found_says, Answered}
-use Rattle.nearest.specs.declared.Found.{Found}
-use Rattle.wishes.specs.Many.{many_values, ManyAnswered}
-use Rattle.wishes.specs.declared.Wished.{Wished}
+use Rattle.joins.specs.Join.{Joining, join_values, JoinMade}
+use Rattle.cuts.specs.Answers.{Sectioned, section_values, SectionPromise, Halved, split_values, SplitPromise}
+use Rattle.nearest.specs.Answer.{Found, found_values, found_says, Answered}
+use Rattle.wishes.specs.Many.{Wished, many_values, ManyAnswered}
 use Rattle.packing.specs.Packed.{packed_values, packed_cell, packed_corner, packed_part, Few}
 use Rattle.packing.proofs.Bounds.{place_few, values_place, cell_few, corner_few, join_few, section_few, split_few, nearest_few, many_few}
 use Rattle.travelmap.specs.Exports.{Exported, three_axes, CheckPacked, CellPacked, CornerPacked, PlanePacked, BoxPacked, JoinPacked, SectionPacked, SplitPacked, NearestBy, ManyPacked}
@@ -75,32 +71,32 @@ module _ (ns : List ℤ) where
   unfolding Checked
   check_packed v r h e = e ∙ ap (λ o. packed_values o.values) h
 
-  pub cell_fits : (c : Cell) (a : CellAnswer) → CellPromise ns c a → Few (cell_values a)
+  pub cell_fits : (c : Cell) (a : Result Bool Refusal) → CellPromise ns c a → Few (cell_values a)
   unfolding CellPromise
   cell_fits c a h = fits_by h (cell_few ns c)
 
   module _ (x y z : ℤ) (fx : SFits w16 x) (fy : SFits w16 y) (fz : SFits w16 z) where
-    pub cell_packed : (a : CellAnswer) (r : ℕ) → CellPromise ns (cell (back x) (back y) (back z)) a → r ≡ packed_cell (cell_says a)
+    pub cell_packed : (a : Result Bool Refusal) (r : ℕ) → CellPromise ns (cell (back x) (back y) (back z)) a → r ≡ packed_cell (cell_says a)
         → CellPacked ns (cell x y z) r
     unfolding CellPromise
     cell_packed a r h e = e ∙ ap packed_cell h ∙ back_three (λ x y z. packed_cell (cell_outcome ns (cell x y z))) x y z fx fy fz
 
-    pub corner_packed : (a : CornerAnswer) (r : ℕ) → CornerPromise ns (corner (back x) (back y) (back z)) a → r ≡ packed_corner (corner_says a)
+    pub corner_packed : (a : Result Report Refusal) (r : ℕ) → CornerPromise ns (corner (back x) (back y) (back z)) a → r ≡ packed_corner (corner_says a)
         → CornerPacked ns (corner x y z) r
     unfolding CornerPromise
     corner_packed a r h e = e ∙ ap packed_corner h ∙ back_three (λ x y z. packed_corner (corner_outcome ns (corner x y z))) x y z fx fy fz
 
   -- there are eight cells round a corner
-  pub corner_fits : (v : Corner) (a : CornerAnswer) → CornerPromise ns v a → (refusal_place a.verdict ≤ most_vertices) × (a.how_many ≤ 8)
+  pub corner_fits : (v : Corner) (a : Result Report Refusal) → CornerPromise ns v a → Few (corner_says a).values × ((corner_says a).given.how_many ≤ 8)
   unfolding CornerPromise
   corner_fits v a h = (
-    subst (λ (n : ℕ). n ≤ most_vertices) (values_place a.verdict) (fits_by h (corner_few ns v)).place,
-    subst (λ (n : ℕ). n ≤ 8) (sym (ap (λ o. o.given.how_many) h)) (eight (passes (verdict ns))),
+    fits_by h (corner_few ns v),
+    subst (λ (n : ℕ). n ≤ 8) (sym (ap (λ o. o.given.how_many) h)) (eight (verdict ns)),
   )
     where
-      eight : (t : Bool) → (cond t (outcome (done 0) (report_on (permitted (vertices ns)) v) nothing) (kept (report 0 0 0) nothing (refused 1 (verdict ns)))).given.how_many ≤ 8
-      eight true = count_le (permitted (vertices ns)) (surrounding v)
-      eight false = omega arith
+      eight : (u : Verdict) → (checked 1 u (kept (report 0 0 0) nothing) (outcome (done 0) (report_on (permitted (vertices ns)) v) nothing)).given.how_many ≤ 8
+      eight (Ok u) = count_le (permitted (vertices ns)) (surrounding v)
+      eight (Err r) = omega arith
 
   pub ends_fit : (x : ℤ) (r : Ends) → EndsPromise ns x r → (r.start ≤ r.end) × (r.end ≤ 3 * most_vertices)
   ends_fit x r h =

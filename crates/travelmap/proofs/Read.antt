@@ -15,14 +15,17 @@ use lib.Dec.{eqb}
 use lib.IntN.{ℤ}
 use mir.Syntax.{w16}
 use mir.Val.{SFits}
-use Rattle.meaning.specs.Numbers.{Cell, Corner, cell, is_code}
+use Rattle.meaning.specs.Numbers.{cell, is_code}
+use Rattle.meaning.specs.declared.Cell.{Cell}
+use Rattle.meaning.specs.declared.Corner.{Corner}
 use Rattle.meaning.specs.Lists.{vertices, permitted, Rising}
 use Rattle.meaning.specs.Kinds.{bit}
-use Rattle.meaning.specs.Verdicts.{verdict, passes, refusal_number}
+use Rattle.meaning.specs.Verdicts.{Verdict, verdict, passes, refusal_number}
 use Rattle.meaning.specs.Outcomes.{Values, Outcome, outcome, Nothing, nothing, done, refused, empty_map, kept}
-use Rattle.meaning.specs.Nearest.{gap, weight, distance, Reached, reached, nowhere, nearest_of, IsNearest, nearest_outcome}
-use Rattle.meaning.specs.declared.Verdict.{Verdict}
-use Rattle.meaning.specs.declared.Verdict.TheVariants.{Valid, NotTriples, TooMany, OutOfRange, NotRising, OddLine}
+use Rattle.meaning.specs.Nearest.{gap, weight, distance, reached, nowhere, nearest_of, IsNearest, nearest_outcome}
+use Rattle.meaning.specs.declared.Reached.{Reached}
+use Rattle.std.specs.Prelude.{Ok, Err}
+use Rattle.meaning.specs.declared.Refusal.TheVariants.{NotTriples, TooMany, OutOfRange, NotRising, OddLine}
 use Rattle.meaning.proofs.Integers.{and_left, and_right}
 use Rattle.meaning.proofs.Checked.{passes_valid}
 use Rattle.meaning.proofs.Maps.{valid_within, some_permitted}
@@ -173,12 +176,12 @@ module _ (ns : List ℤ) (w c : Cell) (near : IsNearest ns w c) where
 
 -- a list that does not pass has a number
 refused_number : (v : Verdict) → passes v ≡ false → 0 < refusal_number v
-refused_number Valid e = absurd (true≢false e)
-refused_number NotTriples e = omega arith
-refused_number TooMany e = omega arith
-refused_number (OutOfRange i) e = omega arith
-refused_number (NotRising i) e = omega arith
-refused_number (OddLine i) e = omega arith
+refused_number (Ok u) e = absurd (true≢false e)
+refused_number (Err NotTriples) e = omega arith
+refused_number (Err TooMany) e = omega arith
+refused_number (Err (OutOfRange i)) e = omega arith
+refused_number (Err (NotRising i)) e = omega arith
+refused_number (Err (OddLine i)) e = omega arith
 
 refusal_read : (r : ℕ) (v : Values) → Few v → 0 < v.number → r ≡ packed_values v → ReadsNearest r v nowhere.at
 refusal_read r v f some e =

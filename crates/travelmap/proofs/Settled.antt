@@ -6,9 +6,10 @@ use mathlib.Core.Path.{◌≡◌, sym, ◌∙◌, ap}
 use mathlib.Core.List.{List}
 use Prim.Native.Nat.{ℕ}
 use lib.IntN.{ℤ}
-use Rattle.meaning.specs.Numbers.{Cell, Corner}
+use Rattle.meaning.specs.declared.Cell.{Cell}
+use Rattle.meaning.specs.declared.Corner.{Corner}
 use Rattle.meaning.specs.Outcomes.{Outcome, Nothing}
-use Rattle.meaning.specs.Nearest.{Reached}
+use Rattle.meaning.specs.declared.Reached.{Reached}
 use Rattle.nearest.proofs.Promise.{outcome_once}
 use Rattle.wishes.proofs.Answers.{many_once}
 use Rattle.packing.specs.Packed.{packed_values, packed_nearest, packed_distance}

@@ -6,9 +6,11 @@
 --   NearestBy, NearestPacked, DistancePacked              the nearest cell, and how far it is
 --   ManyPacked                                            the nearest cells to many wishes
 use Rattle.std.specs.Prelude.{◌≡◌, List, [], ◌∷◌, ℕ, ℤ}
-use Rattle.meaning.specs.Numbers.{Cell, Corner}
+use Rattle.meaning.specs.declared.Cell.{Cell}
+use Rattle.meaning.specs.declared.Corner.{Corner}
 use Rattle.meaning.specs.Outcomes.{Outcome, Nothing}
-use Rattle.meaning.specs.Nearest.{Reached, IsNearest, nearest_outcome}
+use Rattle.meaning.specs.Nearest.{IsNearest, nearest_outcome}
+use Rattle.meaning.specs.declared.Reached.{Reached}
 use Rattle.lists.specs.Check.{check_outcome}
 use Rattle.boxes.specs.Box.{box_outcome}
 use Rattle.asks.specs.Asks.{cell_outcome, corner_outcome, plane_ends}

@@ -7,7 +7,8 @@ ghost use Rattle.meaning.specs.Numbers.{cell, corner};
 ghost use Rattle.travelmap.specs.Exports.{three_axes, CheckPacked, CellPacked, CornerPacked, PlanePacked, BoxPacked};
 ghost use Rattle.travelmap.specs.Exports.{JoinPacked, SectionPacked, SplitPacked, NearestPacked, DistancePacked, ManyPacked};
 
-use nearest::nearest_by;
+use meaning::{Cell, Corner};
+use nearest::nearest;
 use packing::{
     pack_box, pack_cell, pack_corner, pack_distance, pack_join, pack_nearest, pack_part,
     pack_section, pack_split, pack_verdict, pack_wished,
@@ -45,14 +46,24 @@ pub fn travelmap_box(
 pub fn travelmap_cell(list: &[i16], focus: i16, first: i16, second: i16) -> u64
     ensures { CellPacked list.now (cell focus first second) result }
 {
-    pack_cell(asks::cell_permitted(list, focus, first, second))
+    let cell = Cell {
+        focus,
+        first,
+        second,
+    };
+    pack_cell(asks::cell_permitted(list, cell))
 }
 
 // The corner report.
 pub fn travelmap_corner(list: &[i16], focus: i16, first: i16, second: i16) -> u64
     ensures { CornerPacked list.now (corner focus first second) result }
 {
-    pack_corner(asks::corner_report(list, focus, first, second))
+    let corner = Corner {
+        focus,
+        first,
+        second,
+    };
+    pack_corner(asks::corner_report(list, corner))
 }
 
 // Where the vertices with that focus number stand in the list.
@@ -88,14 +99,24 @@ pub fn travelmap_split(list: &[i16], axis: u32, at: i16, low: &mut [i16], high: 
 pub fn travelmap_nearest(list: &[i16], focus: i16, first: i16, second: i16) -> u64
     ensures { NearestPacked list.now (cell focus first second) result }
 {
-    pack_nearest(nearest_by(lists::check(list), list, focus, first, second))
+    let wish = Cell {
+        focus,
+        first,
+        second,
+    };
+    pack_nearest(nearest(list, wish))
 }
 
 // The distance from a wish to the nearest permitted cell.
 pub fn travelmap_nearest_distance(list: &[i16], focus: i16, first: i16, second: i16) -> u64
     ensures { DistancePacked list.now (cell focus first second) result }
 {
-    pack_distance(nearest_by(lists::check(list), list, focus, first, second))
+    let wish = Cell {
+        focus,
+        first,
+        second,
+    };
+    pack_distance(nearest(list, wish))
 }
 
 // The permitted cells nearest to the wishes, three numbers each, one cell of three codes for each wish.

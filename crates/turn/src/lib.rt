@@ -53,7 +53,7 @@ fn take_some(
     m
 }
 
-// The same; where the plane has no keys the section stays as it is.
+// The same; where the plane has no keys the section stays as it is. A section that grows is, without a heap, a lent slice and how many keys it has.
 pub fn take_in(
     sec: &mut [u32],
     n: usize,

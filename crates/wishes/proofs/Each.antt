@@ -1,6 +1,5 @@
 -- Cells that are the nearest to wishes, one for each.
 --   nearest_to_lem                  every wish has a nearest cell, if the list is a map that permits any
---   wish_back                       a number that is lifted, and back
 --   each_nearest, each_once         wishes have nearest cells; of a map with a vertex they are the only ones
 --   each_long                       as many as wishes
 --   length_wishes, length_cells     how many wishes numbers are, and how many numbers cells are
@@ -12,7 +11,8 @@ use Prim.Native.Nat.{◌*◌, ◌/◌, ◌<◌}
 use native.Mathlib.Omega.{arith}
 use lib.IntN.{ℤ}
 use lib.ListN.{length}
-use Rattle.meaning.specs.Numbers.{Cell, Corner}
+use Rattle.meaning.specs.declared.Cell.{Cell}
+use Rattle.meaning.specs.declared.Corner.{Corner}
 use Rattle.meaning.specs.Lists.{vertices, permitted, Rising}
 use Rattle.meaning.specs.Verdicts.{verdict, passes}
 use Rattle.meaning.specs.Nearest.{IsNearest}

@@ -9,10 +9,10 @@ use Prim.Native.Nat.{ℕ, ◌+◌, ◌<◌}
 use native.Mathlib.Omega.{arith}
 use lib.IntN.{ℤ}
 use lib.ListN.{length, drop, set, length-append}
-use Rattle.meaning.specs.Numbers.{Corner}
+use Rattle.meaning.specs.declared.Corner.{Corner}
 use Rattle.meaning.specs.Lists.{vertices, permitted}
 use Rattle.meaning.specs.Nearest.{Nearest}
-use Rattle.meaning.specs.Verdicts.{passes}
+use Rattle.meaning.specs.Verdicts.{Valid, verdict, passes}
 use Rattle.rising.proofs.Written.{Written, none, several, to_come, all}
 use Rattle.wishes.specs.Many.{wishes, cell_numbers}
 use Rattle.wishes.specs.Each.{wish_from, NearestPut, Wishable, EachPut}
@@ -49,12 +49,12 @@ module _ (ns ws before : List ℤ) where
     putting_room = omega (arith, h.room, m.read, m.written.long, length-append wish left)
 
     -- one wish more, by the vertices that the keys give back
-    pub puts : (l : List Corner) → l ≡ vertices ns → (after : List ℤ) → NearestPut l (wish_from wish 0) at now after
+    pub puts : verdict ns ≡ Valid → (l : List Corner) → l ≡ vertices ns → (after : List ℤ) → NearestPut l (wish_from wish 0) at now after
         → Putting ns ws before left after (at + 3)
-    puts l is after p =
+    puts valid l is after p =
         let w = wish_from wish 0 in
         let e : p.found ≡ nearest_to ns w =
-        nearest_once ns (ap passes h.valid) h.some w p.found (nearest_to ns w)
+        nearest_once ns (ap passes valid) h.some w p.found (nearest_to ns w)
         (λ q d y. subst (λ (j : List Corner). Nearest (permitted j) w p.found) is p.nearest) (nearest_is ns w) in
         let next : spelled ns (wish ++ left) ≡ cell_numbers (p.found ∷ []) ++ spelled ns left =
         ap (λ l. cell_numbers (map (nearest_to ns) l)) (wishes_from wish left three) ∙ ap (λ c. cell_numbers (c ∷ map (nearest_to ns) (wishes left))) (sym e) in

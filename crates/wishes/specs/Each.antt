@@ -4,12 +4,12 @@
 --   Wishable      a map that is not empty, wishes that come in threes, and room for their cells
 --   EachPut       the cells nearest to the wishes stand at the front, in their order, and everything behind is untouched
 use Rattle.std.specs.Prelude.{◌≡◌, List, ℕ, ◌+◌, ◌%◌, ◌≤◌, ◌<◌, ℤ, pos, length, get_or, set}
-use Rattle.meaning.specs.Numbers.{Cell, Corner, cell}
+use Rattle.meaning.specs.Numbers.{cell}
+use Rattle.meaning.specs.declared.Cell.{Cell}
+use Rattle.meaning.specs.declared.Corner.{Corner}
 use Rattle.meaning.specs.Lists.{vertices, permitted}
-use Rattle.meaning.specs.Verdicts.{verdict}
 use Rattle.meaning.specs.Nearest.{Nearest}
 use Rattle.meaning.specs.Outcomes.{per_vertex, front}
-use Rattle.meaning.specs.declared.Verdict.TheVariants.{Valid}
 use Rattle.wishes.specs.Many.{wishes, cell_numbers, EachNearest}
 
 abbrev pub wish_from : List ℤ → ℕ → Cell
@@ -21,7 +21,6 @@ pub record NearestPut (l : List Corner) (w : Cell) (at : ℕ) (before after : Li
   pub is : after ≡ set (set (set before at found.focus) (at + 1) found.first) (at + 2) found.second
 
 pub record Wishable (ns ws before : List ℤ) : Type 0 where
-  pub valid : verdict ns ≡ Valid
   pub some : 0 < length (vertices ns)
   pub threes : length ws % per_vertex ≡ 0
   pub room : length ws ≤ length before

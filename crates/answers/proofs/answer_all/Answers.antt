@@ -12,6 +12,6 @@ loop-i-preserved c =
     record {
       left = left_more inv.left _ _ cut long chunk.0 count;
       written =
-          written_chunk inv.left _ _ cut long _ _ _ c.answer.result _ inv.written c.answer.ensures c.copy_from_slice.ensures.after c.requires.wishes_in_bounds
+          written_chunk inv.left _ _ cut long _ _ _ c.answer.result _ inv.written c.answer.ensures c.copy_from_slice.ensures.after c.requires
           number count (17 * c.in-Some.i + 17 - 17 * c.in-Some.i) (omega arith);
     }

@@ -11,5 +11,5 @@ invariant-loop-i l =
     let it = l.i-iterator in
     record {
       left : Left l.wishes (chunks_exact_rest (enumerate_source it)) (chunks_exact_size (enumerate_source it)) (enumerate_count it);
-      written : Written (vertices l.list) l.wishes (enumerate_count it) l.initial.out l.out;
+      written : Written (vertices l.map.list.now) l.wishes (enumerate_count it) l.initial.out l.out;
     }

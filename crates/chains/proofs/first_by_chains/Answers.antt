@@ -5,14 +5,12 @@ use Rattle.chains.proofs.Links.{no_heads}
 use Rattle.chains.proofs.Flags.{ups_new}
 use Rattle.chains.proofs.first_by_chains.Goals as goal
 
-pub link-requires : goal.link-requires
+pub link-requires-clause-heads_len : goal.link-requires-clause-heads_len
 unfolding most_vertices
-link-requires c = let p = c.requires in record {
-  parted = p.0;
-  keys_len_bound = p.1;
-  heads_len = (refl, p.1);
-  empty_heads = no_heads 1025;
-}
+link-requires-clause-heads_len c = (refl, c.requires.1)
+
+pub link-requires-clause-empty_heads : goal.link-requires-clause-empty_heads
+link-requires-clause-empty_heads c = no_heads 1025
 
 pub first_odd-requires : goal.first_odd-requires
 first_odd-requires c = (refl, ups_new 1025)

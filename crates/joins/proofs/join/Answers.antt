@@ -1,15 +1,17 @@
 -- `joins::join` meets its contract: its answers are the promised ones, case by case.
-use mathlib.Core.Path.{◌≡◌, sym, ap, ◌∙◌}
+use mathlib.Core.Path.{◌≡◌, subst₂}
 use mathlib.Core.Bool.{true}
+use mathlib.Core.List.{List}
+use lib.IntN.{ℤ}
 use Prim.Native.Nat.{◌≤◌}
 use native.Mathlib.Omega.{arith}
-use Rattle.meaning.specs.Lists.{most_vertices}
+use Rattle.std.proofs.lemmas.Result.{err_from_is_err_and}
 use Rattle.meaning.specs.Verdicts.{verdict, passes}
-use Rattle.meaning.proofs.Checked.{passes_valid}
-use Rattle.lists.proofs.Verdicts.{checked_verdict}
-use Rattle.joins.proofs.Answers.{triple_room, bad_low, bad_high, first_refused, second_refused, joined, no_room_lem}
+use Rattle.sweep.specs.Room.{InRoom}
+use Rattle.joins.specs.declared.JoinError.TheVariants.{FirstRefused, SecondRefused}
+use Rattle.joins.proofs.Answers.{bad_low, bad_high, first_refused, second_refused, joined_or_not, map_refused, map_taken}
 use Rattle.joins.proofs.join.Goals as goal
-use Rattle.joins.proofs.join.Goals.{Else-not-is_valid, Else-not-is_valid-2, Else-op-gt-EXCLUSIVE}
+use Rattle.joins.proofs.join.Goals.{Else-op-gt-EXCLUSIVE, In_ok-first}
 
 -- ---- the operation, then the lists, then the room
 
@@ -26,42 +28,30 @@ op_low e = omega (arith, e.if-op-lt-UNION.false)
 op_high : (e : Else-op-gt-EXCLUSIVE) → e.args.op ≤ 4
 op_high e = omega (arith, e.if-op-gt-EXCLUSIVE.false)
 
-pub returns-then-not-is_valid : goal.returns-then-not-is_valid
-returns-then-not-is_valid c =
-    let at = goal.at.returns-then-not-is_valid c in
-    first_refused _ c.args.a.now c.args.b.now _ (op_low at.Else-op-gt-EXCLUSIVE) (op_high at.Else-op-gt-EXCLUSIVE) _ (checked_verdict _ _ c.check-first.ensures)
-    (sym c.is_valid.ensures ∙ c.if-not-is_valid.true)
+pub returns-in_err-first : goal.returns-in_err-first
+returns-in_err-first c =
+    let at = goal.at.returns-in_err-first c in
+    let p = err_from_is_err_and c.from_residual.result c.from_residual.ensures.1 in
+    let (r, is, why) = map_refused _ c.of.result FirstRefused c.of.ensures.err c.in_err-first.ensures.cases in
+    rw (p.1, p.2, is) (first_refused _ _ _ _ (op_low at.Else-op-gt-EXCLUSIVE) (op_high at.Else-op-gt-EXCLUSIVE) r why)
 
 -- the first list passes
-passes_a : (e : Else-not-is_valid) → passes (verdict e.args.a.now) ≡ true
-passes_a e = ap passes (sym (checked_verdict _ _ e.check-first.ensures)) ∙ sym e.is_valid.ensures ∙ e.if-not-is_valid.false
+passes_a : (n : In_ok-first) → (n.in_ok-first.first.list.now ≡ n.args.a.now) × (passes (verdict n.args.a.now) ≡ true)
+passes_a n = map_taken _ n.of.result n.in_ok-first.first n.of.ensures.ok n.in_ok-first.ensures.cases
 
-pub returns-then-not-is_valid-2 : goal.returns-then-not-is_valid-2
-returns-then-not-is_valid-2 c =
-    let at = goal.at.returns-then-not-is_valid-2 c in
-    second_refused _ c.args.a.now c.args.b.now _ (op_low at.Else-op-gt-EXCLUSIVE) (op_high at.Else-op-gt-EXCLUSIVE) (passes_a at.Else-not-is_valid) _
-    (checked_verdict _ _ c.check-second.ensures)
-    (sym c.is_valid-2.ensures ∙ c.if-not-is_valid-2.true)
-
--- and the second
-passes_b : (e : Else-not-is_valid-2) → passes (verdict e.args.b.now) ≡ true
-passes_b e = ap passes (sym (checked_verdict _ _ e.check-second.ensures)) ∙ sym e.is_valid-2.ensures ∙ e.if-not-is_valid-2.false
-
-pub join_valid-count-requires-clause-valid : goal.join_valid-count-requires-clause-valid
-join_valid-count-requires-clause-valid c =
-    let at = goal.at.join_valid-count-requires-clause-valid c in
-    (passes_valid _ (passes_a at.Else-not-is_valid), passes_valid _ (passes_b at.Else-not-is_valid-2))
-
-pub returns-then-most-count : goal.returns-then-most-count
-unfolding most_vertices
-returns-then-most-count c =
-    let at = goal.at.returns-then-most-count c in
-    let room = c.fitting-most.ensures in
-    no_room_lem _ _ _ _ (op_low at.Else-op-gt-EXCLUSIVE) (op_high at.Else-op-gt-EXCLUSIVE) (passes_a at.Else-not-is_valid) (passes_b at.Else-not-is_valid-2) room c.join_valid-count.ensures
-    (omega (arith, c.if-most-count.true, triple_room room))
+pub returns-in_err-second : goal.returns-in_err-second
+returns-in_err-second c =
+    let at = goal.at.returns-in_err-second c in
+    let p = err_from_is_err_and c.from_residual-in_err-second.result c.from_residual-in_err-second.ensures.1 in
+    let (r, is, why) = map_refused _ c.of-2.result SecondRefused c.of-2.ensures.err c.in_err-second.ensures.cases in
+    rw (p.1, p.2, is)
+    (second_refused _ _ _ _ (op_low at.Else-op-gt-EXCLUSIVE) (op_high at.Else-op-gt-EXCLUSIVE) (passes_a at.In_ok-first).1 r why)
 
 pub returns : goal.returns
 returns c =
     let at = goal.at.returns c in
-    joined _ _ _ _ (op_low at.Else-op-gt-EXCLUSIVE) (op_high at.Else-op-gt-EXCLUSIVE) (passes_a at.Else-not-is_valid) (passes_b at.Else-not-is_valid-2) c.fitting-most.ensures
-    c.join_valid-count.ensures (omega (arith, c.if-most-count.false))
+    let (a, ga) = passes_a at.In_ok-first in
+    let (b, gb) = map_taken _ c.of-2.result c.in_ok-second.second c.of-2.ensures.ok c.in_ok-second.ensures.cases in
+    rw (c.ok_or.ensures.value)
+    (joined_or_not _ _ _ _ (op_low at.Else-op-gt-EXCLUSIVE) (op_high at.Else-op-gt-EXCLUSIVE) ga gb c.fitting-most.ensures
+    (subst₂ (λ (x y : List ℤ). InRoom c.args.op x y c.fitting-most.result c.args.out.now c.join_valid.result c.join_valid.new.out) a b c.join_valid.ensures))

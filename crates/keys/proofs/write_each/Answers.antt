@@ -3,14 +3,11 @@ use mathlib.Core.Path.{◌≡◌, ◌∙◌, ap}
 use mathlib.Core.List.{[], ◌++◌}
 use Prim.Native.Nat.{◌*◌}
 use native.Mathlib.Omega.{arith}
-use native.Mathlib.Nat.{mul-zero, mul-le-mul_left}
+use native.Mathlib.Nat.{mul-le-mul_left}
 use lib.ListN.{length, drop, drop_of_length-le}
-use Rattle.rising.proofs.Written.{none, next_at, to_come, all}
+use Rattle.rising.proofs.Written.{next_at, to_come, all}
 use Rattle.keys.proofs.Filling.{part}
 use Rattle.keys.proofs.write_each.Goals as goal
-
-pub loop-i-init : goal.loop-i-init
-loop-i-init g c spell s = rw (mul-zero g.row.WIDTH) (none _ _)
 
 pub loop-i-preserved : goal.loop-i-preserved
 loop-i-preserved g c spell s =

@@ -37,8 +37,11 @@ returns-then-outside-n c =
     verdict_checked _ _
     (outside_stop l c.if-list-ne0.false (few (goal.at.returns-then-outside-n c).Else-n-gt-MOST_VERTICES) c.first_outside-outside.result c.first_outside-outside.ensures (omega (arith, length_vertices l)))
 
-pub first_falling-falling-requires : goal.first_falling-falling-requires
-first_falling-falling-requires c = ranged c
+pub invariant_of-corners : goal.invariant_of-corners
+invariant_of-corners c = record {
+  in_range = ranged (goal.at.invariant_of-corners c).Else-outside-n;
+  few = few (goal.at.invariant_of-corners c).Else-n-gt-MOST_VERTICES;
+}
 
 pub returns-then-falling-n : goal.returns-then-falling-n
 returns-then-falling-n c =
@@ -46,12 +49,6 @@ returns-then-falling-n c =
     verdict_checked _ _
     (falls_stop l c.if-list-ne0.false (few (goal.at.returns-then-falling-n c).Else-n-gt-MOST_VERTICES) c.first_outside-outside.result c.first_outside-outside.ensures (none_outside (goal.at.returns-then-falling-n c).Else-outside-n)
     c.first_falling-falling.result c.first_falling-falling.ensures (omega (arith, length_vertices l)))
-
-pub first_on_odd_line-odd-requires : goal.first_on_odd_line-odd-requires
-first_on_odd_line-odd-requires c = record {
-  in_range = ranged (goal.at.first_on_odd_line-odd-requires c).Else-outside-n;
-  list_len_bound = few (goal.at.first_on_odd_line-odd-requires c).Else-n-gt-MOST_VERTICES;
-}
 
 pub returns-then-odd-n : goal.returns-then-odd-n
 returns-then-odd-n c =

@@ -3,12 +3,14 @@ use mathlib.Core.Path.{◌≡◌, sym, ap₂, subst}
 use mathlib.Core.List.{List, map}
 use Prim.Native.Nat.{ℕ, ◌+◌, ◌*◌, ◌<◌}
 use native.Mathlib.Omega.{arith}
-use Rattle.meaning.specs.Numbers.{Corner, Cell, cell}
+use Rattle.meaning.specs.Numbers.{cell}
+use Rattle.meaning.specs.declared.Cell.{Cell}
+use Rattle.meaning.specs.declared.Corner.{Corner}
 use Rattle.meaning.specs.Nearest.{weight}
 use Rattle.codes.specs.Keys.{of_key}
 use Rattle.codes.specs.Lift.{lowered}
 use Rattle.ranks.specs.declared.Scale.{Scale}
-use Rattle.ranks.specs.Values.{Sound, way}
+use Rattle.ranks.specs.Values.{way}
 use Rattle.ranks.proofs.Costs.{beyond_fits}
 use Rattle.cells.specs.Cells.{map_in}
 use Rattle.nearest.specs.Ranks.{Ranked}
@@ -18,17 +20,17 @@ use Rattle.nearest.proofs.rank_of.Goals as goal
 use Rattle.nearest.proofs.rank_of.Goals.{After-beyond, After-beyond-2, After-beyond-3}
 
 -- what the ways to the scales' codes count
-on_the_way : (wish : ℕ) (scale : Scale) (r : ℕ) → wish < 65536 → Sound scale → r ≡ way wish scale → r < 1048577
-on_the_way wish scale r h s e = omega (arith, e, beyond_fits scale s wish h)
+on_the_way : (wish : ℕ) (scale : Scale) (r : ℕ) → wish < 65536 → r ≡ way wish scale → r < 1048577
+on_the_way wish scale r h e = omega (arith, e, beyond_fits scale wish h)
 
 on_focus : (c : After-beyond) → c.beyond.result < 1048577
-on_focus c = on_the_way c.args.focus c.bring-a.result _ c.requires.wished.0 c.bring-a.ensures.sound c.beyond.ensures
+on_focus c = on_the_way c.args.focus c.bring-a.result _ c.requires.wished.0 c.beyond.ensures
 
 on_first : (c : After-beyond-2) → c.beyond-2.result < 1048577
-on_first c = on_the_way c.args.first c.bring-b.result _ c.requires.wished.1 c.bring-b.ensures.sound c.beyond-2.ensures
+on_first c = on_the_way c.args.first c.bring-b.result _ c.requires.wished.1 c.beyond-2.ensures
 
 on_second : (c : After-beyond-3) → c.beyond-3.result < 1048577
-on_second c = on_the_way c.args.second c.bring-d.result _ c.requires.wished.2 c.bring-d.ensures.sound c.beyond-3.ensures
+on_second c = on_the_way c.args.second c.bring-d.result _ c.requires.wished.2 c.beyond-3.ensures
 
 pub bring-a-requires : goal.bring-a-requires
 bring-a-requires c = let h = c.requires.located in record {
@@ -53,7 +55,6 @@ planes-rank-requires c =
     let k = c.requires.located.keyed in record {
       from = keyed_rise c.args.keys.now k;
       even = keyed_even c.bring-b.result c.bring-d.result c.args.keys.now k;
-      scales = record { on_focus = c.bring-a.ensures.sound; on_first = c.bring-b.ensures.sound; on_second = c.bring-d.ensures.sound };
       keys_in_bounds = c.requires.keys_in_bounds;
     }
 

@@ -14,7 +14,7 @@ are_due f = omega arith
 -- the first ill formed line of those that can be wishes
 found : (f : After-frames_from-ill) → f.frames_from-ill.result ≡ first (ill_at f.args.s.now wish_tag (wish_place f.args.n)) (min f.div_ceil-due.result 256)
 found f =
-    let most : f.min.result ≡ min f.div_ceil-due.result 256 = grind arith in
+    let most : f.min.result ≡ min f.div_ceil-due.result 256 = omega arith in
     f.frames_from-ill.ensures.value ∙ ap (first (ill_at f.args.s.now wish_tag (wish_place f.args.n))) most
 
 pub returns-then-ill-due-clause-list_after : goal.returns-then-ill-due-clause-list_after

@@ -1,29 +1,29 @@
 -- `rows::take_line` meets its contract: each key turns the bits from its place on.
-use Prim.Native.Nat.{◌*◌}
-use lib.ListN.{length}
+use mathlib.Core.List.{List}
+use Prim.Native.Nat.{ℕ, ◌+◌, ◌≤◌, ◌<◌}
+use lib.ListN.{length, drop, get_or}
 use native.Mathlib.Omega.{arith}
-use Rattle.rows.proofs.Flips.{rest_placed, took_begins, took_next, took_stops, took_ends}
+use Rattle.meaning.specs.Counting.{All}
+use Rattle.turn.proofs.Pieces.{run_stops}
+use Rattle.rows.proofs.Flips.{all_from, Took, took_one, took_all}
 use Rattle.rows.proofs.take_line.Goals as goal
 
-pub loop-passed-init : goal.loop-passed-init
-loop-passed-init c = took_begins c.requires.i_in_bounds c.requires.from
+here : (words : ℕ) {keys : List ℕ} {i start limit e : ℕ} {before now : List ℕ} → All (λ k. (start ≤ k) × (k < limit → k < start + words)) (drop i keys)
+    → Took keys i start limit before now e → e < length keys → (start ≤ get_or keys e 0) × (get_or keys e 0 < limit → get_or keys e 0 < start + words)
+here words {keys} {i} {start} {limit} {e} h t u = all_from (λ k. (start ≤ k) × (k < limit → k < start + words)) keys i e h t.running.from u
 
 pub returns-then-limit-key : goal.returns-then-limit-key
-returns-then-limit-key c = took_stops c.loop-passed.invariant c.loop-passed-test.true c.if-limit-key.true
+returns-then-limit-key c =
+    let taken = c.loop-e.invariant in
+    took_all taken (run_stops _ _ _ _ taken.running c.loop-e-test.true c.if-limit-key.true).3
 
 pub overflow_sub-key : goal.overflow_sub-key
-overflow_sub-key c =
-    let a = c.args in
-    (rest_placed a.keys.now a.i _ c.loop-passed-test.true a.start a.limit (64 * length a.row.now) c.requires.all).0
+overflow_sub-key c = (here _ c.requires.all c.loop-e.invariant c.loop-e-test.true).0
 
 pub flip-requires : goal.flip-requires
 flip-requires c =
-    let a = c.args in
-    let at = rest_placed a.keys.now a.i _ c.loop-passed-test.true a.start a.limit (64 * length a.row.now) c.requires.all in
-    omega (arith, at.0, at.1 c.if-limit-key.false, c.loop-passed.invariant.long)
+    let at = here _ c.requires.all c.loop-e.invariant c.loop-e-test.true in
+    omega (arith, at.0, at.1 (omega (arith, c.if-limit-key.false)), c.loop-e.invariant.long)
 
-pub loop-passed-preserved : goal.loop-passed-preserved
-loop-passed-preserved c = took_next c.loop-passed.invariant c.loop-passed-test.true c.if-limit-key.false c.flip.ensures
-
-pub returns : goal.returns
-returns c = took_ends c.loop-passed.invariant c.loop-passed-test.false
+pub loop-e-preserved : goal.loop-e-preserved
+loop-e-preserved c = took_one _ c.loop-e.invariant c.loop-e-test.true (omega (arith, c.if-limit-key.false)) c.flip.ensures

@@ -24,26 +24,20 @@ pub returns-then-found-rank : goal.returns-then-found-rank
 returns-then-found-rank c =
     let h = c.loop-i-test.true in
     turned_two c.loop-i.invariant.0.order (omega (arith, high_in (high plane_unit) c.args.keys.now c.loop-i.i h)) c.loop-i.invariant.0.seen
-    (turned_above plane_unit c.args.focus (section_in c.args.first c.args.second) c.args.keys.now 0 (omega arith) c.requires.from
-    c.requires.scales.on_focus h (c.requires.edge.beyond c.loop-i.i c.loop-i.invariant.1 h) (omega (arith, c.value_behind-rank.ensures.is, c.if-found-rank.true)))
+    (turned_above plane_unit c.args.scales.focus (section_in c.args.scales.first c.args.scales.second) c.args.keys.now 0 (omega arith) c.requires.from
+    h (c.requires.edge.beyond c.loop-i.i c.loop-i.invariant.1 h) (omega (arith, c.value_behind-rank.ensures.is, c.if-found-rank.true)))
 
-pub run_end-e-requires : goal.run_end-e-requires
-run_end-e-requires c = record {
-  unit_nonzero = omega arith;
-  rising = from_rising c.args.keys.now c.requires.from;
-  i_in_bounds = c.loop-i-test.true;
-}
+pub invariant_of-rising : goal.invariant_of-rising
+invariant_of-rising c = record { rising = from_rising c.args.keys.now c.requires.from }
 
-pub squares-found-requires : goal.squares-found-requires
-squares-found-requires c = record {
-  rising = plane_rising plane_unit c.args.keys.now c.loop-i.i c.run_end-e.result c.requires.from (ends (goal.at.squares-found-requires c).After-run_end-e).0;
-  sound = (c.requires.scales.on_first, c.requires.scales.on_second);
-  rank_bound = omega (arith, c.value_behind-rank.ensures.small);
+pub invariant_of-pairs : goal.invariant_of-pairs
+invariant_of-pairs c = record {
+  rising = plane_rising plane_unit c.args.keys.now c.loop-i.i c.run_end-e.result c.requires.from (ends (goal.at.invariant_of-pairs c).After-run_end-e).0;
 }
 
 pub loop-i-preserved : goal.loop-i-preserved
 loop-i-preserved c =
-    let D = section_in c.args.first c.args.second in
+    let D = section_in c.args.scales.first c.args.scales.second in
     let run = (ends (goal.at.loop-i-preserved c).After-run_end-e).0 in (
       passed_on (omega arith) c.requires.from c.loop-i.invariant.0 run (ends (goal.at.loop-i-preserved c).After-run_end-e).1 c.if-number-ge-END.false
           (subst (λ (k : ℕ). Best (Rank D (map (rest plane_unit) (run_of c.args.keys.now c.loop-i.i c.run_end-e.result)) k) c.loop-i.found c.squares-found.result)

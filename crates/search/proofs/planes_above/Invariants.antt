@@ -6,7 +6,7 @@ use Rattle.squares.proofs.Walk.{Passed}
 use Rattle.search.proofs.planes_above.Given as goal
 
 abbrev pub invariant-loop-i : goal.invariant-loop-i
-invariant-loop-i l = Passed plane_unit l.focus (section_in l.first l.second) l.keys 0 (high_at (high plane_unit) l.keys l.place) l.best l.i l.found × (l.place ≤ l.i)
+invariant-loop-i l = Passed plane_unit l.scales.focus (section_in l.scales.first l.scales.second) l.keys 0 (high_at (high plane_unit) l.keys l.place) l.best l.i l.found × (l.place ≤ l.i)
 
 abbrev pub decreases-loop-i : goal.decreases-loop-i
 decreases-loop-i l = length l.keys - l.i

@@ -7,4 +7,4 @@ use Rattle.wishes.proofs.each_with_room.Given as goal
 abbrev pub invariant-loop-i : goal.invariant-loop-i
 invariant-loop-i l =
     let chunks = l.i-iterator.iter in
-    (chunks.size ≡ 3) × Putting l.list l.wishes l.initial.cells chunks.rest.now l.cells (3 * l.i-iterator.count)
+    (chunks.size ≡ 3) × Putting l.map.list.now l.wishes l.initial.cells chunks.rest.now l.cells (3 * l.i-iterator.count)

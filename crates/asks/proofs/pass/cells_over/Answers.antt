@@ -2,12 +2,12 @@
 use mathlib.Core.Path.{ap₂, ◌∙◌}
 use lib.Bits.{bit_and}
 use Rattle.std.proofs.Common.{rules}
-use Rattle.asks.specs.Passes.{lowered_corner}
 use Rattle.asks.proofs.Passes.{vertex_of}
 use Rattle.asks.proofs.Masks.{over_sides}
 use Rattle.asks.proofs.pass.cells_over.Goals as goal
 
 pub returns : goal.returns
-returns c = let a = c.args in
+returns c =
     ap₂ bit_and c.beyond-a.ensures (ap₂ bit_and c.beyond-b.ensures c.beyond-c.ensures)
-    ∙ over_sides (vertex_of a.vertex.now) (lowered_corner a.focus a.first a.second) (search rules) (search rules) (search rules)
+    ∙ over_sides (vertex_of c.args.vertex.now) c.args.corner (search rules) (search rules) (search rules)
+    (search rules) (search rules) (search rules)

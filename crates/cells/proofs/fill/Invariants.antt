@@ -1,7 +1,0 @@
--- `fill` meets its contract: each number turns its bit.
-use lib.ListN.{take}
-use Rattle.cells.specs.Line.{numbers_of, Tells}
-use Rattle.cells.proofs.fill.Given as goal
-
-abbrev pub invariant-loop-pair : goal.invariant-loop-pair
-invariant-loop-pair l = Tells (take l.pair-index (numbers_of l.base l.pairs)) l.row

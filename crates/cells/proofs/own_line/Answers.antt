@@ -1,7 +1,0 @@
--- `own_line` meets its contract: the wish's own code, or what lies just behind the numbers.
-use mathlib.Core.Path.{sym}
-use Rattle.cells.proofs.Line.{line_behind}
-use Rattle.cells.proofs.own_line.Goals as goal
-
-pub returns : goal.returns
-returns c = line_behind c.requires.sound (sym c.in_default.ensures) c.behind_each.ensures
