@@ -1,4 +1,5 @@
-// One line for each question: the example's number, what is asked, and the answer. What the output does not take is let go.
+// One line for each question: the example's number, what is asked, and the answer. What the output does not take is let go. Cells are three numbers, as
+// the functions for C take them.
 use crate::fields::{BYTE, FIRST, FOCUS, HALF, HOW_MANY, KIND, NUMBER, PLACE, WORD, code};
 use crate::say::Spaced;
 

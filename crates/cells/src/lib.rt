@@ -95,7 +95,8 @@ impl Pairs<'_> {
         }
     }
 
-    // The least of best and the ranks, from rank up, of the codes just behind the numbers that a row says are there an odd number of times.
+    // The least of best and the ranks, from rank up, of the codes just behind the numbers that a row says are there an odd number of times. Apart from
+    // `behind_each`, which needs no row.
     fn behind_odd(self, row: &[u64], second: Scale, rank: u64, best: u64) -> u64
         requires tells { Tells (numbers_of self.base self.list.now) row.now }
         requires rank_bound { rank < 2 ^ 60 }

@@ -19,7 +19,7 @@ const WORDS: usize = 17;
 // The last corner number, counted from 0.
 const HIGHEST: u32 = 1024;
 
-// The lesser of two keys, either of which may be missing.
+// The lesser of two keys, either of which may be missing: `min` of two Options would take the missing one for the lesser.
 fn lesser(a: Option<u32>, b: Option<u32>) -> Option<u32>
     ensures { result ≡ lesser_of a b }
 {
@@ -107,7 +107,7 @@ struct Operands<'a> {
     ghost base_bound: { base ≤ 2149580800 },
 }
 
-// Puts out, behind n keys, what a plane changes, and answers how many keys that makes.
+// Puts out, behind n keys, what a plane changes, and answers how many keys that makes. The operation is a number here, as `rows` takes it.
 fn changes(op: u32, of: Operands, out: &mut [u32], n: usize) -> usize
     requires planes { Planes of.span.low of.span.words of.base of.sa.now of.sb.now of.pa.now of.pb.now }
     requires count_bound { n + 1088 * (length of.sa.now + length of.sb.now + length of.pa.now + length of.pb.now) ≤ 2 ^ 60 }

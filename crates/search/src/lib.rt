@@ -84,7 +84,7 @@ fn planes_above(keys: &[u32], place: usize, scales: Scales, best: u64) -> u64
     found
 }
 
-// The same of the planes below a place, where none lies above the wish's focus.
+// The same of the planes below a place, where none lies above the wish's focus. Apart from the one above: it goes the other way, and no number ends it.
 fn planes_below(keys: &[u32], place: usize, scales: Scales, best: u64) -> u64
     requires from { From 0 keys.now }
     requires edge { Edge (high plane_unit) keys.now scales.focus.wish place }

@@ -9,7 +9,7 @@ ghost use Rattle.sweep.specs.Room.{InRoom};
 use lists::TravelMap;
 
 // Joins two maps where there is room for most vertices, in working room of its own for so many vertices a list. Answers how many vertices the list
-// has, or none where that is more than there is room for.
+// has, or none where that is more than there is room for. The operation is a number, as `rows` takes it.
 pub fn join_in_room<const ROOM: usize>(
     op: u32,
     a: TravelMap,

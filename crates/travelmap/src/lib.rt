@@ -1,6 +1,6 @@
 // The functions that C and Rust call, on slices of numbers and numbers. Each answers one number that packs document 01's values. It relies on
 // `lists`, `boxes`, `asks`, `joins`, `cuts`, `nearest` and `wishes` for the answers, and on `packing` for the one number. Crate `travelmap_c` exports them,
-// and include/travelmap.h declares them for C.
+// and include/travelmap.h declares them for C. Cells, operations and axes are numbers here, as C passes them.
 #![tactic(auto)]
 
 ghost use Rattle.meaning.specs.Numbers.{cell, corner};
