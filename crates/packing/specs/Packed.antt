@@ -20,7 +20,7 @@ use Rattle.meaning.specs.declared.Reached.{Reached}
 use Rattle.meaning.specs.Outcomes.{Values, Outcome, Nothing}
 use Rattle.meaning.specs.Kinds.{bit}
 use Rattle.words.specs.Words.{word, signed}
-use Rattle.asks.specs.Asks.{Report}
+use Rattle.asks.specs.declared.Report.{Report}
 use Rattle.asks.specs.declared.Ends.{Ends}
 
 -- ---- packed

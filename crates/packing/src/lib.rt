@@ -159,7 +159,7 @@ pub fn pack_section(answer: Result<usize, SectionError>) -> u64
     ensures { result ≡ packed_values (section_values answer) }
 {
     match answer {
-        Ok(count) => pack(DONE, 0, 0, 0, count as u16),
+        Ok(pairs) => pack(DONE, 0, 0, 0, pairs as u16),
         Err(SectionError::BadRequest) => pack(BAD_NUMBER, 0, 0, 0, 0),
         Err(SectionError::Refused(refusal)) => pack_refusal(refusal, ONE_LIST),
         Err(SectionError::NoRoom) => pack(NO_ROOM, 0, 0, 0, 0),
@@ -172,7 +172,7 @@ pub fn pack_split(answer: Result<Halves, SplitError>) -> u64
     ensures { result ≡ packed_values (split_values answer) }
 {
     match answer {
-        Ok(halves) => pack(DONE, 0, 0, halves.upper as u16, halves.lower as u16),
+        Ok(Halves { lower, upper }) => pack(DONE, 0, 0, upper as u16, lower as u16),
         Err(SplitError::BadRequest) => pack(BAD_NUMBER, 0, 0, 0, 0),
         Err(SplitError::Refused(refusal)) => pack_refusal(refusal, ONE_LIST),
         Err(SplitError::LowNoRoom) => pack(NO_ROOM, LOWER_HALF, 0, 0, 0),

@@ -8,4 +8,4 @@ use Rattle.packing.proofs.pack_join.Goals as goal
 
 pub overflow_cast-count : goal.overflow_cast-count
 unfolding most_vertices
-overflow_cast-count c = let few = subst (λ a. Few (join_values a)) c.in-Done.is c.requires in omega arith
+overflow_cast-count c = let few = subst (λ a. Few (join_values a)) c.in-Ok.is c.requires in omega arith

@@ -3,6 +3,6 @@ use native.Mathlib.Omega.{arith}
 use Rattle.meaning.specs.Lists.{most_vertices}
 use Rattle.packing.proofs.pack_refusal.Goals as goal
 
-pub overflow_cast-place_of : goal.overflow_cast-place_of
+pub overflow_cast-place : goal.overflow_cast-place
 unfolding most_vertices
-overflow_cast-place_of c = omega arith
+overflow_cast-place c = omega arith

@@ -6,6 +6,6 @@ use Rattle.cuts.specs.Answers.{section_values}
 use Rattle.packing.specs.Packed.{Few}
 use Rattle.packing.proofs.pack_section.Goals as goal
 
-pub overflow_cast-count : goal.overflow_cast-count
+pub overflow_cast-pairs : goal.overflow_cast-pairs
 unfolding most_vertices
-overflow_cast-count c = let few = subst (λ a. Few (section_values a)) c.in-Done.is c.requires in omega arith
+overflow_cast-pairs c = let few = subst (λ a. Few (section_values a)) c.in-Ok.is c.requires in omega arith
