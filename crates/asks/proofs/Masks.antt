@@ -1,6 +1,6 @@
 -- Laws of masks: operations on the bits of a mask are operations on the memberships that it weighs.
 --   and_weigh, xor_weigh    both at once; one without the other
---   over_sides              the cells that a vertex is at or below: on all three axes
+--   over_sides, over_handed    the cells that a vertex is at or below: on all three axes; by numbers as a machine hands them on
 --   masked_by, masked_all   turned by the cells that each vertex of a list is at or below: the mask of the permitted ones
 use mathlib.Core.Path.{◌≡◌, refl, sym, ◌∙◌, ap, ap₂}
 use mathlib.Core.Bool.{Bool, true, false, ◌&&◌, cond, false≢true}
@@ -97,16 +97,21 @@ module _ (w v : Corner) where
   on_second : weigh (map (λ c. le_z w.second c.second) (surrounding v)) ≡ side w.second v.second 170
   on_second = on_axis w.second v.second (false ∷ true ∷ false ∷ true ∷ false ∷ true ∷ false ∷ true ∷ [])
 
-  -- by the numbers of both, as a machine hands them on
-  pub over_sides : SFits w16 w.focus → SFits w16 w.first → SFits w16 w.second → SFits w16 v.focus → SFits w16 v.first → SFits w16 v.second
+  pub over_sides : bit_and (side w.focus v.focus 240) (bit_and (side w.first v.first 204) (side w.second v.second 170)) ≡ over w v
+  over_sides =
+      ap₂ bit_and (sym on_focus)
+      (ap₂ bit_and (sym on_first) (sym on_second) ∙ and_weigh (λ c. le_z w.first c.first) (λ c. le_z w.second c.second) (surrounding v))
+      ∙ and_weigh (λ c. le_z w.focus c.focus) (λ c. le_z w.first c.first && le_z w.second c.second) (surrounding v)
+
+  -- the same by the numbers of both, as a machine hands them on
+  pub over_handed : SFits w16 w.focus → SFits w16 w.first → SFits w16 w.second → SFits w16 v.focus → SFits w16 v.first → SFits w16 v.second
       → bit_and (side (handed w.focus) (handed v.focus) 240)
       (bit_and (side (handed w.first) (handed v.first) 204) (side (handed w.second) (handed v.second) 170))
       ≡ over w v
-  over_sides f₁ f₂ f₃ g₁ g₂ g₃ =
-      ap₂ bit_and (back w.focus v.focus 240 f₁ g₁ ∙ sym on_focus)
-      (ap₂ bit_and (back w.first v.first 204 f₂ g₂ ∙ sym on_first) (back w.second v.second 170 f₃ g₃ ∙ sym on_second)
-      ∙ and_weigh (λ c. le_z w.first c.first) (λ c. le_z w.second c.second) (surrounding v))
-      ∙ and_weigh (λ c. le_z w.focus c.focus) (λ c. le_z w.first c.first && le_z w.second c.second) (surrounding v)
+  over_handed f₁ f₂ f₃ g₁ g₂ g₃ =
+      ap₂ bit_and (back w.focus v.focus 240 f₁ g₁)
+      (ap₂ bit_and (back w.first v.first 204 f₂ g₂) (back w.second v.second 170 f₃ g₃))
+      ∙ over_sides
     where
       back : (u x : ℤ) (high : ℕ) → SFits w16 u → SFits w16 x → side (handed u) (handed x) high ≡ side u x high
       back u x high f g = ap₂ (λ y z. side y z high) (to_z-of_z w16 u f) (to_z-of_z w16 x g)

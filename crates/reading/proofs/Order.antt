@@ -8,13 +8,13 @@
 --   wish_few                         if it is well formed they are at most 256
 use mathlib.Core.Path.{◌≡◌, refl, sym, ◌∙◌, ap, ap₂, subst}
 use mathlib.Core.Bool.{Bool, true, false, ◌||◌, cond, or-true}
-use mathlib.Core.List.{List}
+use mathlib.Core.List.{List, []}
 use Prim.Native.Nat.{ℕ, ◌+◌, ◌*◌, ◌≤◌, ◌<◌, min}
 use native.Mathlib.Omega.{arith}
 use borrow.Author.Tests.{lt-ltb, le-ltb, lt-leb, leb-false, eq-eqb, ne_eqb}
 use lib.Dec.{ltb, leb, eqb}
 use lib.IntN.{ℤ}
-use lib.ListN.{take}
+use lib.ListN.{length, take}
 use Rattle.meaning.specs.Counting.{first}
 use Rattle.meaning.specs.Lists.{most_vertices}
 use Rattle.meaning.specs.Verdicts.{verdict}
@@ -119,6 +119,9 @@ module _ (s : List ℕ) (n : ℕ) where
   wish_is : (r : ℕ) → r ≡ wish_lines s n → unless_ill bad r (n + 3) (whole (numbers_from s wish_tag (wish_place n) r)) ≡ wish_text s n
   unfolding wish_text most_wishes
   wish_is r e = ap (λ k. unless_ill bad k (n + 3) (whole (numbers_from s wish_tag (wish_place n) k))) e
+
+  pub wish_none : length s ≤ wish_place n → whole [] ≡ wish_text s n
+  wish_none h = wish_is 0 (omega arith)
 
   module _ {due r : ℕ} (e : due ≡ wish_lines s n) (er : r ≡ first (ill_at s wish_tag (wish_place n)) (min due 256)) where
     found : r ≡ first bad due
