@@ -37,7 +37,7 @@ use Rattle.cuts.specs.Answers.{Sectioned, section_values, SectionPromise, Halved
 use Rattle.nearest.specs.Answer.{Found, found_values, found_says, Answered}
 use Rattle.wishes.specs.Many.{Wished, many_values, ManyAnswered}
 use Rattle.packing.specs.Packed.{packed_values, packed_cell, packed_corner, packed_part, Few}
-use Rattle.packing.proofs.Bounds.{place_few, values_place, cell_few, corner_few, join_few, section_few, split_few, nearest_few, many_few}
+use Rattle.packing.proofs.Bounds.{place_few, cell_few, corner_few, join_few, section_few, split_few, nearest_few, many_few}
 use Rattle.travelmap.specs.Exports.{Exported, three_axes, CheckPacked, CellPacked, CornerPacked, PlanePacked, BoxPacked, JoinPacked, SectionPacked, SplitPacked, NearestBy, ManyPacked}
 
 -- ---- a signed number that is passed on comes back from its bits

@@ -3,7 +3,7 @@ use Rattle.travelmap.proofs.Passing.{corner_fits, corner_packed}
 use Rattle.travelmap.proofs.travelmap_corner.Goals as goal
 
 pub pack_corner-requires : goal.pack_corner-requires
-pack_corner-requires c = corner_fits _ _ _ c.corner_report.ensures
+pack_corner-requires c = let f = corner_fits _ _ _ c.corner_report.ensures in record { few = f.0; eight = f.1 }
 
 pub returns : goal.returns
 returns c =
