@@ -1,5 +1,6 @@
 -- The loops between lists of numbers and lists of keys.
 --   Reading      the keys of the first i vertices are written
+--   three, two   a corner's and a pair's numbers, written one by one
 --   part         the next numbers are written into a part of a slice
 -- Assumes nothing.
 use mathlib.Core.Path.{◌≡◌, refl, sym, ◌∙◌, ap, subst}
@@ -78,6 +79,21 @@ module _ (ns : List ℤ) (before now : List ℕ) (i : ℕ) (m : Reading ns befor
 pub stored : (r : ℤ) (n : ℕ) → n ≤ 1024 → r ≡ number n → to_z w16 (of_z w16 r) ≡ number n
 stored r n h e =
     ap (λ z. to_z w16 (of_z w16 z)) e ∙ to_z-of_z w16 (number n) (number_fits_lem (number n) (is_number_number n ∙ le-leb n 1024 h))
+
+-- ---- a corner and a pair, number by number
+
+pub three : (l : List ℤ) → length l ≡ 3 → {x y z a b d : ℤ} → x ≡ a → y ≡ b → z ≡ d → set (set (set l 0 x) 1 y) 2 z ≡ a ∷ b ∷ d ∷ []
+three [] h e f g = absurd (omega arith)
+three (p ∷ []) h e f g = absurd (omega arith)
+three (p ∷ q ∷ []) h e f g = absurd (omega arith)
+three (p ∷ q ∷ r ∷ []) h e f g = λ j. e j ∷ f j ∷ g j ∷ []
+three (p ∷ q ∷ r ∷ s ∷ l) h e f g = absurd (omega arith)
+
+pub two : (l : List ℤ) → length l ≡ 2 → {x y a b : ℤ} → x ≡ a → y ≡ b → set (set l 0 x) 1 y ≡ a ∷ b ∷ []
+two [] h e f = absurd (omega arith)
+two (p ∷ []) h e f = absurd (omega arith)
+two (p ∷ q ∷ []) h e f = λ j. e j ∷ f j ∷ []
+two (p ∷ q ∷ r ∷ l) h e f = absurd (omega arith)
 
 -- ---- a part of a slice written as a whole
 

@@ -66,12 +66,11 @@ fn write_corner(key: u32, out: &mut [i16])
     requires room { length out.old ≡ 3 }
     ensures { out.new ≡ numbers (of_key key ∷ []) }
 {
+    // One by one, here and below: an array that is copied is stored and loaded again, by which a section takes a quarter more.
     let rest = key % PLANE;
-    out.copy_from_slice(&[
-        number_of(key / PLANE),
-        number_of(rest / LINE),
-        number_of(rest % LINE),
-    ]);
+    out[0] = number_of(key / PLANE);
+    out[1] = number_of(rest / LINE);
+    out[2] = number_of(rest % LINE);
 }
 
 // Writes the two numbers of a pair key's pair.
@@ -80,7 +79,8 @@ fn write_pair(key: u32, out: &mut [i16])
     requires room { length out.old ≡ 2 }
     ensures { out.new ≡ pair_numbers (pair_of_key key ∷ []) }
 {
-    out.copy_from_slice(&[number_of(key / LINE), number_of(key % LINE)]);
+    out[0] = number_of(key / LINE);
+    out[1] = number_of(key % LINE);
 }
 
 // Writes so many numbers for each key, as one of them is written, to the front of out.
