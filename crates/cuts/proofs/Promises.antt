@@ -126,7 +126,7 @@ module _ {Left : Type 0} (ns : List ℤ) (n : ℕ) (b : Bool) (left : Left) (nex
 -- ---- what is known of a call before anything is made
 
 -- a number that was asked, as it was passed, and its crossing
-crossed_lem : (z : ℤ) → SFits w16 z → {u : ℕ} → u ≡ lifted (to_z w16 (of_z w16 z)) → u ≡ lifted z
+pub crossed_lem : (z : ℤ) → SFits w16 z → {u : ℕ} → u ≡ lifted (to_z w16 (of_z w16 z)) → u ≡ lifted z
 crossed_lem z fits e = e ∙ ap lifted (to_z-of_z w16 z fits)
 
 -- a list that the check calls valid
@@ -137,13 +137,13 @@ few_vertices_lem ns e = ((verdict_valid ns).0 e).1.few
 -- ---- the promise of section, case by case
 
 -- u is the code that was asked, after the crossing
-module _ (ns : List ℤ) (n : ℕ) (k : ℤ) (before : List ℤ) (fits : SFits w16 k) {u : ℕ} (lift : u ≡ lifted (to_z w16 (of_z w16 k)))
+module _ (ns : List ℤ) (n : ℕ) (k : ℤ) (before : List ℤ) {u : ℕ} (crossed : u ≡ lifted k)
     {good : Bool} (range : good ≡ in_range n u 33279) where
   abbrev made : Axis → Outcome Nothing (List ℤ)
   made axis = placed per_pair pair_numbers (section_pairs axis k ns) before
 
   in_range_lem : (leb n 2 && is_code k) ≡ good
-  in_range_lem = ap (leb n 2 &&◌) (is_code_lem k u (crossed_lem k fits lift)) ∙ sym range
+  in_range_lem = ap (leb n 2 &&◌) (is_code_lem k u crossed) ∙ sym range
 
   pub section_bad : good ≡ false → SectionPromise ns n k before (Err section.BadRequest) before
   unfolding SectionPromise
@@ -162,7 +162,7 @@ module _ (ns : List ℤ) (n : ℕ) (k : ℤ) (before : List ℤ) (fits : SFits w
     unfolding SectionPromise
     section_made p same r after e =
         let at = sym range ∙ is in
-        let back = number_back k u (crossed_lem k fits lift) (range_low n u 33279 at) (omega (arith, range_high n u 33279 at)) in
+        let back = number_back k u crossed (range_low n u 33279 at) (omega (arith, range_high n u 33279 at)) in
         e ∙
         ap₂ (λ z ls. placed per_pair pair_numbers (section_pairs (axis_at n) z ls) before) back same ∙
         sym (outcome_next ns n (is_code k) before made (in_range_lem ∙ is) (ap (λ ls. passes (verdict ls)) (sym same) ∙ ap passes p))
@@ -170,13 +170,13 @@ module _ (ns : List ℤ) (n : ℕ) (k : ℤ) (before : List ℤ) (fits : SFits w
 -- ---- the promise of split, case by case
 
 -- u is the number that was asked, after the crossing
-module _ (ns : List ℤ) (n : ℕ) (p : ℤ) (low high : List ℤ) (fits : SFits w16 p) {u : ℕ} (lift : u ≡ lifted (to_z w16 (of_z w16 p)))
+module _ (ns : List ℤ) (n : ℕ) (p : ℤ) (low high : List ℤ) {u : ℕ} (crossed : u ≡ lifted p)
     {good : Bool} (range : good ≡ in_range n u 33280) where
   abbrev made_both : Axis → Outcome Nothing Halves
   made_both axis = placed_halves (lower_list axis p ns) (upper_list axis p ns) low high
 
   in_range' : (leb n 2 && is_number p) ≡ good
-  in_range' = ap (leb n 2 &&◌) (is_number_lem p u (crossed_lem p fits lift)) ∙ sym range
+  in_range' = ap (leb n 2 &&◌) (is_number_lem p u crossed) ∙ sym range
 
   pub split_bad : good ≡ false → SplitPromise ns n p low high (Err split.BadRequest) low high
   unfolding SplitPromise
@@ -195,7 +195,7 @@ module _ (ns : List ℤ) (n : ℕ) (p : ℤ) (low high : List ℤ) (fits : SFits
     unfolding SplitPromise
     split_made q same r low' high' e =
         let at = sym range ∙ is in
-        let back = number_back p u (crossed_lem p fits lift) (range_low n u 33280 at) (range_high n u 33280 at) in
+        let back = number_back p u crossed (range_low n u 33280 at) (range_high n u 33280 at) in
         e ∙
         ap₂ (λ z ls. placed_halves (lower_list (axis_at n) z ls) (upper_list (axis_at n) z ls) low high) back same ∙
         sym (outcome_next ns n (is_number p) (halves low high) made_both (in_range' ∙ is) (ap (λ ls. passes (verdict ls)) (sym same) ∙ ap passes q))
