@@ -19,11 +19,11 @@ const FOCUS_WEIGHT: u64 = 1;
 const SHIFT_WEIGHT: u64 = 1;
 
 // What one code counts among cells at the same distance: lowest focus, then first shift, then second.
-const FOCUS_PLACE: u64 = 1 << 20;
+pub const FOCUS_PLACE: u64 = 1 << 20;
 
-const FIRST_PLACE: u64 = 1 << 10;
+pub const FIRST_PLACE: u64 = 1 << 10;
 
-const SECOND_PLACE: u64 = 1;
+pub const SECOND_PLACE: u64 = 1;
 
 // A rank above that of every cell, from which the search for the least sets out; no Option, since the least of ranks is only ever lowered.
 const NONE: u64 = 1 << 60;
@@ -149,8 +149,8 @@ fn rank_in_room<const ROOM: usize>(map: TravelMap, wish: Cell) -> u64
     rank_with_room(map, wish, &mut keys, &mut room, &mut work)
 }
 
-// The code that stands at a place of a rank.
-fn code(rank: u64, place: u64) -> i16
+// Inner: the code that stands at a place of a rank.
+pub fn code(rank: u64, place: u64) -> i16
     requires { 0 < place }
     ensures { result ≡ code_at rank place }
 {

@@ -42,7 +42,7 @@ impl Scale {
     }
 
     // The code from low to below high that lies nearest to the wish.
-    fn near(wish: u32, low: u32, high: u32) -> u32
+    pub fn near(wish: u32, low: u32, high: u32) -> u32
         requires { low < high }
         ensures { Near wish low high result }
     {
