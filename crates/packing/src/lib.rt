@@ -111,7 +111,7 @@ pub fn pack_corner(answer: Result<Report, Refusal>) -> u64
             let cells = report.how_many as u16 * HOW_MANY + report.mask as u16;
             pack(DONE, 0, 0, report.kind as u16, cells)
         }
-        Err(refusal) => pack_refusal(refusal, ONE_LIST),
+        Err(why) => pack_refusal(why, ONE_LIST),
     }
 }
 

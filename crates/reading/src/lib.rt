@@ -58,8 +58,8 @@ impl From<Refusal> for Refused {
 
     ghost from_gives = { λ why refused. refused ≡ Refused.List why };
 
-    fn from(why: Refusal) -> Refused {
-        Refused::List(why)
+    fn from(refusal: Refusal) -> Refused {
+        Refused::List(refusal)
     }
 }
 
