@@ -1,5 +1,6 @@
 -- The four lists that the sweep of a plane reads line by line.
 --   Of              a reading is of a list, whose keys count from an offset
+--   passed          a line that has no key of a list
 --   Going           the state of the loop over lines
 --   start           nothing read
 --   asks_a .. asks_put     what each call of the loop's body asks
@@ -8,17 +9,19 @@
 --   heads, ended    the least of the first keys that are left; no key is left
 -- Assumes nothing.
 use mathlib.Core.Path.{◌≡◌, refl, sym, ◌∙◌, ap, subst, subst₂}
-use mathlib.Core.List.{List, ◌++◌}
+use mathlib.Core.List.{List}
 use Prim.Native.Nat.{ℕ, zero, suc, ◌+◌, ◌*◌, ◌^◌, ◌≤◌, ◌<◌}
 use native.Mathlib.Omega.{arith}
-use lib.ListN.{length, take, drop, replicate}
+use lib.ListN.{length, take, drop, get_or, replicate}
 use lib.Seq.{length-take-le}
 use Rattle.std.specs.Prelude.{Option, None, Some}
 use Rattle.meaning.specs.Counting.{All}
 use Rattle.meaning.proofs.Space.{all_map}
 use Rattle.rising.specs.Merged.{From, less_base}
 use Rattle.rows.specs.Rows.{TookLine, PutLine}
-use Rattle.turn.proofs.Lists.{all_take, front_of}
+use Rattle.turn.proofs.Lists.{all_take}
+use Rattle.turn.proofs.Pieces.{run_stops}
+use Rattle.rows.proofs.Flips.{took_none, took_all}
 use Rattle.levels.specs.declared.Reading.{Reading}
 use Rattle.levels.specs.Planes.{lesser_of, Begun, HeadIs, InRow, AtLine, LineTaken, Planes, Rows, Changed}
 use Rattle.levels.proofs.Lines.{Read, Heads, Lines, line_of}
@@ -35,22 +38,23 @@ pub record Of (off : ℕ) (l : List ℕ) (r : Reading) : Type 0 where
   pub is_base : r.base ≡ off
 
 module _ {off : ℕ} {l : List ℕ} {r : Reading} (o : Of off l r) where
-  pub still : {line low words : ℕ} {r' : Reading} → LineTaken line low words r r' → Of off l r'
+  pub still : {line low : ℕ} {row row' : List ℕ} {r' : Reading} → LineTaken line low row row' r r' → Of off l r'
   still t = record { is_keys = t.keys ∙ o.is_keys; is_base = t.base ∙ o.is_base }
 
   pub head_is : (x : Option ℕ) → HeadIs r.base r.keys.now r.read x → HeadIs off l r.read x
   head_is x = subst₂ (λ (b : ℕ) (k : List ℕ). HeadIs b k r.read x) o.is_base o.is_keys
 
-  pub took : {line low words : ℕ} {r' : Reading} → LineTaken line low words r r'
-      → TookLine l r.read (off + line + low) (off + line + 2048) (take words r.row) (take words r'.row) r'.read
-  took {line} {low} {words} {r'} t =
-      subst₂ (λ (b : ℕ) (k : List ℕ). TookLine k r.read (b + line + low) (b + line + 2048) (take words r.row) (take words r'.row) r'.read)
+  pub took : {line low : ℕ} {row row' : List ℕ} {r' : Reading} → LineTaken line low row row' r r'
+      → TookLine l r.read (off + line + low) (off + line + 2048) row row' r'.read
+  took {line} {low} {row} {row'} {r'} t =
+      subst₂ (λ (b : ℕ) (k : List ℕ). TookLine k r.read (b + line + low) (b + line + 2048) row row' r'.read)
       o.is_base o.is_keys t.took
 
   -- what taking a line asks
   pub asks : {line low words edge : ℕ} {row : List ℕ} → Read off low words l edge r.read row → off + line + 2048 < 2 ^ 32
-      → All (InRow (off + line + low) (off + line + 2048) words) (drop r.read l) → AtLine line low words r
+      → All (InRow (off + line + low) (off + line + 2048) words) (drop r.read l) → AtLine line low (length row) r
   asks {line} {low} {words} w f h =
+      subst (λ (n : ℕ). AtLine line low n r) (sym w.long)
       record {
         fits = omega (arith, o.is_base);
         within = omega (arith, ap length o.is_keys, w.within);
@@ -65,25 +69,43 @@ module _ {off : ℕ} {l : List ℕ} {r : Reading} (o : Of off l r) where
 begun : {off : ℕ} {l : List ℕ} {r : Reading} → Begun l off r → Of off l r
 begun b = record { is_keys = b.keys; is_base = b.base_is }
 
-row_long : {off : ℕ} {l : List ℕ} {r : Reading} → Begun l off r → (words : ℕ) → words ≤ 17 → length (take words r.row) ≡ words
-row_long b words h = ap (λ k. length (take words k)) b.row ∙ length-take-le words (replicate 17 0) h
+-- ---- a line that is passed over
 
-row_empty : {off : ℕ} {l : List ℕ} {r : Reading} → Begun l off r → (words : ℕ) → All (λ w. w ≡ 0) (take words r.row)
-row_empty b words = subst (λ (k : List ℕ). All (λ w. w ≡ 0) (take words k)) (sym b.row) (all_take (λ w. w ≡ 0) words (replicate 17 0) (zeros 17))
+-- the first key that is left lies beyond the line, and nothing is taken
+pub passed : {line low words : ℕ} {r : Reading} {row : List ℕ} → AtLine line low words r → r.read < length r.keys.now
+    → r.base + line + 2048 ≤ get_or r.keys.now r.read 0 → LineTaken line low row row r r
+passed {line} {low} {words} {r} {row} w h u =
+    let none = took_none r.keys.now r.read (r.base + line + low) (r.base + line + 2048) row w.within w.rises in
+    record {
+      took = took_all none (run_stops r.keys.now r.read (r.base + line + 2048) r.read none.running h u).3;
+      keys = refl;
+      base = refl;
+    }
+
+-- ---- a row
+
+-- so many words of an array of zeros
+abbrev zero_row : ℕ → List ℕ
+zero_row words = take words (replicate 17 0)
+
+row_long : (words : ℕ) → words ≤ 17 → length (zero_row words) ≡ words
+row_long words h = length-take-le words (replicate 17 0) h
+
+row_empty : (words : ℕ) → All (λ w. w ≡ 0) (zero_row words)
+row_empty words = all_take (λ w. w ≡ 0) words (replicate 17 0) (zeros 17)
 
 -- ---- four lists
 
-pub record Going (op low words plane : ℕ) (sa sb pa pb out₀ : List ℕ) (n : ℕ) (a b c d : Reading) (last out : List ℕ) (put : ℕ) : Type 0 where
+pub record Going (op low words plane : ℕ) (sa sb pa pb out₀ : List ℕ) (n : ℕ) (a b c d : Reading) (ra rb ca cb last out : List ℕ) (put : ℕ) : Type 0 where
   pub of_sa : Of 0 sa a
   pub of_sb : Of 0 sb b
   pub of_pa : Of plane pa c
   pub of_pb : Of plane pb d
-  pub lines : Lines op low words plane sa sb pa pb out₀ n (take words a.row) (take words b.row) (take words c.row) (take words d.row)
-      (take words last) out put a.read b.read c.read d.read
+  pub lines : Lines op low words plane sa sb pa pb out₀ n ra rb ca cb last out put a.read b.read c.read d.read
 
 pub start : {op low words plane : ℕ} {sa sb pa pb out : List ℕ} {n : ℕ} {a b c d : Reading} → Begun sa 0 a → Begun sb 0 b → Begun pa plane c
     → Begun pb plane d → Planes low words plane sa sb pa pb → low ≤ 1024 → words ≤ 17
-    → Going op low words plane sa sb pa pb out n a b c d (replicate 17 0) out n
+    → Going op low words plane sa sb pa pb out n a b c d (zero_row words) (zero_row words) (zero_row words) (zero_row words) (zero_row words) out n
 start {op} {low} {words} {plane} {sa} {sb} {pa} {pb} {out} {n} {a} {b} {c} {d} ba bb bc bd p h k =
     record {
       of_sa = begun ba;
@@ -91,29 +113,29 @@ start {op} {low} {words} {plane} {sa} {sb} {pa} {pb} {out} {n} {a} {b} {c} {d} b
       of_pa = begun bc;
       of_pb = begun bd;
       lines =
-          subst₂ (λ (x y : ℕ). Lines op low words plane sa sb pa pb out n (take words a.row) (take words b.row) (take words c.row) (take words d.row)
-          (take words (replicate 17 0)) out n x y c.read d.read) (sym ba.read) (sym bb.read)
-          (subst₂ (λ (x y : ℕ). Lines op low words plane sa sb pa pb out n (take words a.row) (take words b.row) (take words c.row) (take words d.row)
-          (take words (replicate 17 0)) out n 0 0 x y) (sym bc.read) (sym bd.read) (laws.lines_start p rows h k));
+          subst₂ (λ (x y : ℕ). Lines op low words plane sa sb pa pb out n (zero_row words) (zero_row words) (zero_row words) (zero_row words)
+          (zero_row words) out n x y c.read d.read) (sym ba.read) (sym bb.read)
+          (subst₂ (λ (x y : ℕ). Lines op low words plane sa sb pa pb out n (zero_row words) (zero_row words) (zero_row words) (zero_row words)
+          (zero_row words) out n 0 0 x y) (sym bc.read) (sym bd.read) (laws.lines_start p rows h k));
     }
   where
-    rows : Rows words (take words a.row) (take words b.row) (take words c.row) (take words d.row) (take words (replicate 17 0))
+    rows : Rows words (zero_row words) (zero_row words) (zero_row words) (zero_row words) (zero_row words)
     rows =
         record {
-          long_ra = row_long ba words k;
-          long_rb = row_long bb words k;
-          long_ca = row_long bc words k;
-          long_cb = row_long bd words k;
-          long_last = length-take-le words (replicate 17 0) k;
-          none_ra = row_empty ba words;
-          none_rb = row_empty bb words;
-          none_ca = row_empty bc words;
-          none_cb = row_empty bd words;
-          none_last = all_take (λ w. w ≡ 0) words (replicate 17 0) (zeros 17);
+          long_ra = row_long words k;
+          long_rb = row_long words k;
+          long_ca = row_long words k;
+          long_cb = row_long words k;
+          long_last = row_long words k;
+          none_ra = row_empty words;
+          none_rb = row_empty words;
+          none_ca = row_empty words;
+          none_cb = row_empty words;
+          none_last = row_empty words;
         }
 
-module _ {op low words plane : ℕ} {sa sb pa pb out₀ : List ℕ} {n : ℕ} {a b c d : Reading} {last out : List ℕ} {put : ℕ}
-    (g : Going op low words plane sa sb pa pb out₀ n a b c d last out put) where
+module _ {op low words plane : ℕ} {sa sb pa pb out₀ : List ℕ} {n : ℕ} {a b c d : Reading} {ra rb ca cb last out : List ℕ} {put : ℕ}
+    (g : Going op low words plane sa sb pa pb out₀ n a b c d ra rb ca cb last out put) where
   module _ (x y u v : Option ℕ) (hx : HeadIs a.base a.keys.now a.read x) (hy : HeadIs b.base b.keys.now b.read y)
       (hu : HeadIs c.base c.keys.now c.read u) (hv : HeadIs d.base d.keys.now d.read v) where
     pub heads : {m : ℕ} → lesser_of (lesser_of x y) (lesser_of u v) ≡ Some m → Heads plane sa sb pa pb a.read b.read c.read d.read m
@@ -129,32 +151,32 @@ module _ {op low words plane : ℕ} {sa sb pa pb out₀ : List ℕ} {n : ℕ} {a
     pub small : m ≤ 2098176
     small = laws.least_small g.lines q
 
-    pub asks_a : AtLine (line_of m) low words a
+    pub asks_a : AtLine (line_of m) low (length ra) a
     asks_a = asks g.of_sa g.lines.in_sa (omega (arith, small)) (laws.asks_sa g.lines q)
 
-    pub asks_b : AtLine (line_of m) low words b
+    pub asks_b : AtLine (line_of m) low (length rb) b
     asks_b = asks g.of_sb g.lines.in_sb (omega (arith, small)) (laws.asks_sb g.lines q)
 
-    pub asks_c : plane ≤ 2149580800 → AtLine (line_of m) low words c
+    pub asks_c : plane ≤ 2149580800 → AtLine (line_of m) low (length ca) c
     asks_c h = asks g.of_pa g.lines.in_pa (omega (arith, small)) (laws.asks_pa g.lines q)
 
-    pub asks_d : plane ≤ 2149580800 → AtLine (line_of m) low words d
+    pub asks_d : plane ≤ 2149580800 → AtLine (line_of m) low (length cb) d
     asks_d h = asks g.of_pb g.lines.in_pb (omega (arith, small)) (laws.asks_pb g.lines q)
 
     -- what putting out a line asks
     pub asks_put : plane ≤ 2149580800 → n + 1088 * (length sa + length sb + length pa + length pb) ≤ 2 ^ 60
-        → (plane + line_of m + low + 64 * length (take words last) ≤ 2 ^ 32) × (put ≤ 2 ^ 61)
+        → (plane + line_of m + low + 64 * length last ≤ 2 ^ 32) × (put ≤ 2 ^ 61)
     asks_put h k = (omega (arith, small, g.lines.long, g.lines.few_words, g.lines.small), omega (arith, laws.put_bound g.lines, q.left))
 
-    module _ {a' b' c' d' : Reading} (ta : LineTaken (line_of m) low words a a') (tb : LineTaken (line_of m) low words b b')
-        (tc : LineTaken (line_of m) low words c c') (td : LineTaken (line_of m) low words d d') where
+    module _ {a' b' c' d' : Reading} {ra' rb' ca' cb' : List ℕ} (ta : LineTaken (line_of m) low ra ra' a a')
+        (tb : LineTaken (line_of m) low rb rb' b b') (tc : LineTaken (line_of m) low ca ca' c c') (td : LineTaken (line_of m) low cb cb' d d') where
       pub moved : a.read + b.read + c.read + d.read < a'.read + b'.read + c'.read + d'.read
       moved = laws.moved g.lines q (took g.of_sa ta) (took g.of_sb tb) (took g.of_pa tc) (took g.of_pb td)
 
       pub few_read : c'.read + d'.read ≤ length pa + length pb
       few_read = omega (arith, (took g.of_pa tc).upto, (took g.of_pb td).upto)
 
-      pub quiet : c'.read + d'.read ≡ 0 → Going op low words plane sa sb pa pb out₀ n a' b' c' d' last out put
+      pub quiet : c'.read + d'.read ≡ 0 → Going op low words plane sa sb pa pb out₀ n a' b' c' d' ra' rb' ca' cb' last out put
       quiet e =
           record {
             of_sa = still g.of_sa ta;
@@ -164,27 +186,22 @@ module _ {op low words plane : ℕ} {sa sb pa pb out₀ : List ℕ} {n : ℕ} {a
             lines = laws.line_quiet g.lines q (took g.of_sa ta) (took g.of_sb tb) (took g.of_pa tc) (took g.of_pb td) e;
           }
 
-      module _ {row out' : List ℕ} {r : ℕ}
-          (p : PutLine op (take words a'.row) (take words b'.row) (take words c'.row) (take words d'.row) (take words last) (plane + line_of m + low)
-          out put row out' r) where
-        lines_on : Lines op low words plane sa sb pa pb out₀ n (take words a'.row) (take words b'.row) (take words c'.row) (take words d'.row)
-            row out' r a'.read b'.read c'.read d'.read
+      module _ {last' out' : List ℕ} {r : ℕ} (p : PutLine op ra' rb' ca' cb' last (plane + line_of m + low) out put last' out' r) where
+        lines_on : Lines op low words plane sa sb pa pb out₀ n ra' rb' ca' cb' last' out' r a'.read b'.read c'.read d'.read
         lines_on = laws.line_put g.lines q (took g.of_sa ta) (took g.of_sb tb) (took g.of_pa tc) (took g.of_pb td) p
 
-        pub put_on : Going op low words plane sa sb pa pb out₀ n a' b' c' d' (row ++ drop words last) out' r
+        pub put_on : Going op low words plane sa sb pa pb out₀ n a' b' c' d' ra' rb' ca' cb' last' out' r
         put_on =
             record {
               of_sa = still g.of_sa ta;
               of_sb = still g.of_sb tb;
               of_pa = still g.of_pa tc;
               of_pb = still g.of_pb td;
-              lines = subst (λ (k : List ℕ). Lines op low words plane sa sb pa pb out₀ n (take words a'.row) (take words b'.row) (take words c'.row)
-                  (take words d'.row) k out' r a'.read b'.read c'.read d'.read)
-                  (sym (front_of words row last (row ++ drop words last) (sym (p.long ∙ g.lines.long)) refl)) lines_on;
+              lines = lines_on;
             }
 
-        pub early : c'.read ≡ length c'.keys.now → d'.read ≡ length d'.keys.now → All (λ w. w ≡ 0) (take words c'.row)
-            → All (λ w. w ≡ 0) (take words d'.row) → Changed op sa sb (less_base plane pa) (less_base plane pb) plane out₀ n out' r
+        pub early : c'.read ≡ length c'.keys.now → d'.read ≡ length d'.keys.now → All (λ w. w ≡ 0) ca' → All (λ w. w ≡ 0) cb'
+            → Changed op sa sb (less_base plane pa) (less_base plane pb) plane out₀ n out' r
         early h k zc zd =
             laws.changed_early lines_on (laws.some_words g.lines q)
             (omega (arith, ap length (still g.of_pa tc).is_keys, ap length (still g.of_pb td).is_keys)) zc zd

@@ -3,13 +3,13 @@
 --   Begun      a reading of a list of which nothing is read
 --   HeadIs     the first key that is left of a list, less an offset, or none
 --   InRow      a key at or above a start and, if it is below a limit, within so many words from it
---   AtLine     a reading that a line may be taken into
---   LineTaken  a reading that has taken in the keys of a line
+--   AtLine     a reading whose keys of a line may be taken into a row of so many words
+--   LineTaken  a reading that has taken the keys of a line into a row
 --   Spanned    a key whose number lies within a span
 --   Planes     two sections, and a plane's keys of each operand
 --   Rows       the rows of a plane's sweep
 --   Changed    the change that a plane makes, put out
-use Rattle.std.specs.Prelude.{◌≡◌, List, Option, None, Some, MatchOption, ℕ, ◌+◌, ◌-◌, ◌*◌, ◌%◌, ◌^◌, ◌≤◌, ◌<◌, min, length, take, drop, get_or, replicate}
+use Rattle.std.specs.Prelude.{◌≡◌, List, Option, None, Some, MatchOption, ℕ, ◌+◌, ◌-◌, ◌*◌, ◌%◌, ◌^◌, ◌≤◌, ◌<◌, min, length, drop, get_or}
 use Rattle.meaning.specs.Counting.{All, sum}
 use Rattle.rising.specs.Merged.{From, plus_base}
 use Rattle.rows.specs.Rows.{TookLine, Put, change}
@@ -25,7 +25,6 @@ pub record Begun (l : List ℕ) (base : ℕ) (r : Reading) : Type 0 where
   pub keys : r.keys.now ≡ l
   pub base_is : r.base ≡ base
   pub read : r.read ≡ 0
-  pub row : r.row ≡ replicate 17 0
 
 abbrev pub HeadIs : ℕ → List ℕ → ℕ → Option ℕ → Type 0
 HeadIs off l i o = MatchOption o (length l ≤ i) (λ m. (i < length l) × (m ≡ get_or l i 0 - off))
@@ -39,8 +38,8 @@ pub record AtLine (line low words : ℕ) (r : Reading) : Type 0 where
   pub rises : From 0 r.keys.now
   pub in_row : All (InRow (r.base + line + low) (r.base + line + 2048) words) (drop r.read r.keys.now)
 
-pub record LineTaken (line low words : ℕ) (r r' : Reading) : Type 0 where
-  pub took : TookLine r.keys.now r.read (r.base + line + low) (r.base + line + 2048) (take words r.row) (take words r'.row) r'.read
+pub record LineTaken (line low : ℕ) (row row' : List ℕ) (r r' : Reading) : Type 0 where
+  pub took : TookLine r.keys.now r.read (r.base + line + low) (r.base + line + 2048) row row' r'.read
   pub keys : r'.keys.now ≡ r.keys.now
   pub base : r'.base ≡ r.base
 

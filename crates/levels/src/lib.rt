@@ -41,7 +41,8 @@ struct Span {
     ghost words_bound: { words ≤ 17 },
 }
 
-// A list of keys that is read line by line, with a row of bits for the keys that are read.
+// A list of keys that is read line by line. The row of bits for the keys that are read lies beside it: an array among the fields would keep them all
+// in memory, from where each line would bring them again.
 #[derive(Drop)]
 struct Reading<'a> {
     keys: &'a [u32],
@@ -49,7 +50,6 @@ struct Reading<'a> {
     base: u32,
     // How many keys are read.
     read: usize,
-    row: [u64; WORDS],
 }
 
 impl<'a> Reading<'a> {
@@ -61,7 +61,6 @@ impl<'a> Reading<'a> {
             keys,
             base,
             read: 0,
-            row: [0; WORDS],
         }
     }
 
@@ -74,16 +73,19 @@ impl<'a> Reading<'a> {
         Some(*key - self.base)
     }
 
-    // Takes in the keys of a line.
-    fn take_line(&mut self, line: u32, span: Span)
-        requires { AtLine line span.low span.words self.old }
-        ensures { LineTaken line span.low span.words self.old self.new }
+    // Takes the keys of a line into a row. A line that has no key of the list is passed over without asking `rows`, which is quicker.
+    fn take_line(&mut self, row: &mut [u64], line: u32, span: Span)
+        requires { AtLine line span.low (length row.old) self.old }
+        ensures { LineTaken line span.low row.old row.new self.old self.new }
     {
         let start = self.base + line;
-        let keys = self.keys;
-        let read = self.read;
-        let row = &mut self.row[..span.words];
-        self.read = rows::take_line(row, keys, read, start + span.low, start + LINE);
+        let limit = start + LINE;
+        let Some(key) = self.keys.get(self.read) else {
+            return;
+        };
+        if *key < limit {
+            self.read = rows::take_line(row, self.keys, self.read, start + span.low, limit);
+        }
     }
 
     // Whether all keys are read.
@@ -119,23 +121,27 @@ fn changes(op: u32, of: Operands, out: &mut [u32], n: usize) -> usize
     let mut in_sb = Reading::new(of.sb, 0);
     let mut in_pa = Reading::new(of.pa, of.base);
     let mut in_pb = Reading::new(of.pb, of.base);
+    let mut before_a = [0; WORDS];
+    let mut before_b = [0; WORDS];
+    let mut turns_a = [0; WORDS];
+    let mut turns_b = [0; WORDS];
     let mut last = [0; WORDS];
+    let ra = &mut before_a[..span.words];
+    let rb = &mut before_b[..span.words];
+    let ca = &mut turns_a[..span.words];
+    let cb = &mut turns_b[..span.words];
+    let turned = &mut last[..span.words];
     let mut put = n;
     while let Some(least) = lesser(
         lesser(in_sa.head(), in_sb.head()),
         lesser(in_pa.head(), in_pb.head()),
     ) {
         let line = least - least % LINE;
-        in_sa.take_line(line, span);
-        in_sb.take_line(line, span);
-        in_pa.take_line(line, span);
-        in_pb.take_line(line, span);
+        in_sa.take_line(ra, line, span);
+        in_sb.take_line(rb, line, span);
+        in_pa.take_line(ca, line, span);
+        in_pb.take_line(cb, line, span);
         if 0 < in_pa.read + in_pb.read {
-            let ra = &in_sa.row[..span.words];
-            let rb = &in_sb.row[..span.words];
-            let ca = &in_pa.row[..span.words];
-            let cb = &in_pb.row[..span.words];
-            let turned = &mut last[..span.words];
             let start = of.base + line + span.low;
             put = rows::put_line(op, ra, rb, ca, cb, turned, start, out, put);
             if in_pa.is_read() && in_pb.is_read() && rows::is_zero(ca) && rows::is_zero(cb) {
