@@ -97,9 +97,7 @@ fn put_ones(ones: u64, at: u32, out: &mut [u32], n: usize) -> usize
 }
 
 // Puts out, behind n keys, the ends of the stretches of a line that begins at start where the change of the operation is another than it was
-// last, which it replaces; answers how many keys that makes. A function of its own: within the sweep's loop, and where the linker happens to put that,
-// a join of long lines took up to 1.5 times as long.
-#[inline(never)]
+// last, which it replaces; answers how many keys that makes.
 pub fn put_line(
     op: u32,
     ra: &[u64],
